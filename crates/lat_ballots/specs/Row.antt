@@ -1,0 +1,12 @@
+-- A row of 256 bits in four words of 64, the marks of one ballot.
+use Rattle.std.specs.Prelude.{◌==◌, ◌/◌, ◌%◌, ℕ, Bool, List, map, get_or}
+use Rattle.std.specs.List.{range_with_len}
+use Rattle.std.specs.Int.{bit_at}
+
+-- whether bit t is set: bit t of the row is bit t % 64 of word t / 64
+abbrev pub is_set : List ℕ → ℕ → Bool
+is_set words t = bit_at (get_or words (t / 64) 0) (t % 64) == 1
+
+-- the row's 256 bits, from bit 0 on
+abbrev pub bits_of : List ℕ → List Bool
+bits_of words = map (is_set words) (range_with_len 0 256)

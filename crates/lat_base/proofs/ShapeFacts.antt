@@ -1,0 +1,61 @@
+-- What the tests of a style show, and where its targets are.
+use Rattle.std.proofs.Common.{◌≡◌, ◌≤◌, ◌+◌, ℕ, Bool, true, false, not, List, [], ◌∷◌, Option, Some, None, cond, if◌then◌else◌, is_some, length, nat_lt, nat_eq, refl, arith, All}
+use Rattle.std.specs.List.{AllByRecursion}
+use Rattle.std.proofs.lemmas.List.Sums.{sum_by-take-le}
+use Rattle.std.proofs.lemmas.List.Elements.{All-from_recursion}
+use Rattle.std.proofs.lemmas.Bool.Decides.{nat_tests}
+use Rattle.lat_base.specs.declared.contest.Contest.{Contest}
+use Rattle.lat_base.specs.declared.shape_fault.ShapeFault.{ShapeFault}
+use Rattle.lat_base.specs.declared.shape_fault.ShapeFault.TheVariants.{Empty, TooManyContests, TooManyTargets}
+use Rattle.lat_base.specs.Shape.{IsShape, first_target, target_count}
+use Rattle.lat_base.specs.ShapeFault.{contest_fault, shape_fault, is_in_range}
+
+-- a contest's first target is at most the number of targets
+pub first_target_le : (contests : List Contest) (c : ℕ) → first_target contests c ≤ target_count contests
+first_target_le contests c = sum_by-take-le (λ x. x.targets) contests c
+
+-- where nothing is found, the test failed and nothing is found after it
+nothing : {A : Type 0} (b : Bool) (x : A) (y : Option A) → cond b (Some x) y ≡ None → (b ≡ false) × (y ≡ None)
+nothing true x y h = cc
+nothing false x y h = (refl, h)
+
+in_range_fits : (n : ℕ) → not (is_in_range n) ≡ false → (1 ≤ n) × (n ≤ 64)
+in_range_fits n h = (grind (arith, nat_tests), grind (arith, nat_tests))
+
+limits_fit : (i : ℕ) (contests : List Contest) → contest_fault i contests ≡ None
+    → AllByRecursion (λ c. (1 ≤ c.limit) × (c.limit ≤ 64)) contests × AllByRecursion (λ c. (1 ≤ c.targets) × (c.targets ≤ 64)) contests
+limits_fit i [] h = (tt, tt)
+limits_fit i (c ∷ contests) h =
+    let a = nothing _ _ _ h in
+    let b = nothing _ _ _ a.1 in
+    let more = limits_fit (i + 1) contests b.1 in
+    ((in_range_fits c.limit a.0, more.0), (in_range_fits c.targets b.0, more.1))
+
+neither : {A : Type 0} (o rest : Option A) → cond (is_some o) o rest ≡ None → (o ≡ None) × (rest ≡ None)
+neither None rest h = (refl, h)
+neither (Some x) rest h = cc
+
+abbrev too_many : List Contest → Option ShapeFault
+too_many contests = if nat_lt 256 (target_count contests) then Some (TooManyTargets (target_count contests)) else None
+
+abbrev rest : List Contest → Option ShapeFault
+rest contests = if is_some (contest_fault 0 contests) then contest_fault 0 contests else too_many contests
+
+-- contests in which nothing is wrong are a style
+pub is_shape : (contests : List Contest) → shape_fault contests ≡ None → IsShape contests
+is_shape contests h =
+    let a = nothing (nat_eq (length contests) 0) Empty (if nat_lt 128 (length contests) then Some (TooManyContests (length contests)) else rest contests) h in
+    let b = nothing (nat_lt 128 (length contests)) (TooManyContests (length contests)) (rest contests) a.1 in
+    let d = neither (contest_fault 0 contests) (too_many contests) b.1 in
+    let e = nothing (nat_lt 256 (target_count contests)) (TooManyTargets (target_count contests)) None d.1 in
+    let fits = limits_fit 0 contests d.0 in
+    let sum : target_count contests ≤ 256 = grind (arith, nat_tests, e.0) in
+    let few : length contests ≤ 128 = grind (arith, nat_tests, b.0) in
+    let some : 1 ≤ length contests = grind (arith, nat_tests, a.0) in
+    record {
+      some = some;
+      few = few;
+      limits = All-from_recursion _ contests fits.0;
+      counts = All-from_recursion _ contests fits.1;
+      few_targets = sum;
+    }

@@ -1,0 +1,11 @@
+pub mod Shape
+pub mod ShapeFault
+pub mod Misassignment
+pub mod Tally
+pub mod Deck
+pub mod Rules
+pub mod Goodness
+pub mod Part
+pub mod Canonical
+pub mod Id
+pub mod Worked

@@ -1,0 +1,92 @@
+ghost use Rattle.std.specs.Prelude.{◌≡◌, ◌<◌, ◌≤◌, ◌↔◌, IfOk, Err, Some, None};
+ghost use Rattle.lat_base.specs.Rules.{RuleSet, IsRuleSet, rule_fault};
+
+use std::marker::Model;
+use thiserror::Error;
+
+/// Which number of the rules is above its limit, and that number.
+#[derive(Clone, Copy, Debug, PartialEq, Eq, Error)]
+pub enum RuleFault {
+    #[error("the least total {0} is above 64")]
+    BadLeast(u16),
+    #[error("the number of blank ballots {0} is above 16")]
+    BadBlank(u16),
+    #[error("the number of overvoted ballots {0} is above 16")]
+    BadOver(u16),
+}
+
+/// What an office asks of a test deck besides that it is robust.
+#[derive(Clone, Copy, Debug)]
+pub struct Rules {
+    distinct: bool,
+    least: u16,
+    blank: u16,
+    over: u16,
+}
+
+impl Model for Rules {
+    ghost use Rattle.lat_base.specs.Rules.{RuleSet, IsRuleSet};
+
+    ghost Value = { RuleSet };
+
+    ghost view = { λ a. record { distinct = a.distinct; least = a.least; blank = a.blank; over = a.over } };
+
+    ghost invariant = { λ a. IsRuleSet (record { distinct = a.distinct; least = a.least; blank = a.blank; over = a.over }) };
+
+    ghost inverse = { λ r. record { distinct = r.distinct; least = r.least; blank = r.blank; over = r.over } };
+}
+
+impl Rules {
+    /// The rules of these numbers, or the first of them that is above its limit.
+    pub fn new(distinct: bool, least: u16, blank: u16, over: u16) -> Result<Rules, RuleFault>
+        ensures ok { IfOk result (λ r. (r ≡ record { distinct = distinct; least = least; blank = blank; over = over }) × IsRuleSet r) }
+        ensures fault { (f : RuleFault) → (result ≡ Err f) ↔ (rule_fault (record { distinct = distinct; least = least; blank = blank; over = over }) ≡ Some f) }
+    {
+        if least > 64 {
+            return Err(RuleFault::BadLeast(least));
+        }
+        if blank > 16 {
+            return Err(RuleFault::BadBlank(blank));
+        }
+        if over > 16 {
+            return Err(RuleFault::BadOver(over));
+        }
+        Ok(Rules {
+            distinct,
+            least,
+            blank,
+            over,
+        })
+    }
+
+    /// Whether different targets of one contest must have different totals.
+    pub fn distinct(&self) -> bool
+        ensures { result ≡ self.now.distinct }
+    {
+        self.distinct
+    }
+
+    /// The least number of votes of each target.
+    pub fn least(&self) -> u16
+        ensures value { result ≡ self.now.least }
+        ensures limit { result ≤ 64 }
+    {
+        self.least
+    }
+
+    /// The least number of ballots with no mark.
+    pub fn blank(&self) -> u16
+        ensures value { result ≡ self.now.blank }
+        ensures limit { result ≤ 16 }
+    {
+        self.blank
+    }
+
+    /// The least number of ballots that overvote each contest that can be overvoted.
+    pub fn over(&self) -> u16
+        ensures value { result ≡ self.now.over }
+        ensures limit { result ≤ 16 }
+    {
+        self.over
+    }
+}

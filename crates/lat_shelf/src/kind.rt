@@ -1,0 +1,7 @@
+/// A kind of call of a shelf.
+#[derive(Clone, Copy, Debug, PartialEq, Eq)]
+pub enum Kind {
+    Open,
+    Take,
+    Put,
+}
