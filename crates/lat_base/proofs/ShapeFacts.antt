@@ -1,5 +1,5 @@
 -- What the tests of a style show, and where its targets are.
-use Rattle.std.proofs.Common.{◌≡◌, ◌≤◌, ◌+◌, ℕ, Bool, true, false, not, List, [], ◌∷◌, Option, Some, None, cond, if◌then◌else◌, is_some, length, nat_lt, nat_eq, refl, arith, All}
+use Rattle.std.proofs.Common.{◌≡◌, ◌≤◌, ◌+◌, ℕ, Bool, true, false, not, List, [], ◌∷◌, Option, Some, None, cond, if◌then◌else◌, is_some, length, nat_lt, nat_eq, refl, arith}
 use Rattle.std.specs.List.{AllByRecursion}
 use Rattle.std.proofs.lemmas.List.Sums.{sum_by-take-le}
 use Rattle.std.proofs.lemmas.List.Elements.{All-from_recursion}

@@ -8,4 +8,5 @@ pub mod Goodness
 pub mod Part
 pub mod Canonical
 pub mod Id
+pub mod Names
 pub mod Worked

@@ -1,5 +1,5 @@
 -- How votes are counted. A ballot is a list of truth values, one for each target; a deck is a list of ballots.
-use Rattle.std.specs.Prelude.{ℕ, ◌+◌, ◌&&◌, Bool, false, List, length, map, get_or, slice_range, count_by, not, nat_lt}
+use Rattle.std.specs.Prelude.{ℕ, ◌+◌, ◌&&◌, Bool, false, List, map, get_or, slice_range, count_by, not, nat_lt}
 use Rattle.std.specs.List.{range_with_len}
 use Rattle.lat_base.specs.declared.contest.Contest.{Contest}
 use Rattle.lat_base.specs.Shape.{target_count, first_target, contest_at, contest_of}

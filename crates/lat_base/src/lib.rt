@@ -3,14 +3,20 @@
 #![tactic(auto)]
 
 mod contest;
+mod contest_names;
 mod id;
+mod names;
+mod names0;
 mod rules;
 mod shape;
 mod shape_fault;
 mod worked;
 
 pub use contest::Contest;
+pub use contest_names::ContestNames;
 pub use id::{Id, IdFault};
+pub use names::{NameFault, Names};
+pub use names0::Names0;
 pub use rules::{RuleFault, Rules};
 pub use shape::Shape;
 pub use shape_fault::ShapeFault;
