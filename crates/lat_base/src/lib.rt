@@ -14,7 +14,7 @@ mod worked;
 
 pub use contest::Contest;
 pub use contest_names::ContestNames;
-pub use id::{Id, IdFault};
+pub use id::{Id, IdFault, is_id};
 pub use names::{NameFault, Names};
 pub use names0::Names0;
 pub use rules::{RuleFault, Rules};

@@ -1,16 +1,16 @@
 -- How a name is looked up among what is stored.
-use Rattle.std.proofs.Common.{◌≡◌, ◌+◌, ◌<◌, ◌≤◌, List, ℕ, ◌∷◌, Option, Some, None, cond, length, drop, get_or, Bool, true, false, ap, sym, ◌∙◌, add-one, drop-cons, [], refl}
+use Rattle.std.proofs.Common.{◌≡◌, ◌+◌, ◌<◌, ◌≤◌, List, ℕ, ◌∷◌, Some, None, cond, length, drop, get_or, true, false, ap, sym, ◌∙◌, add-one, drop-cons, refl}
 use Rattle.std.proofs.lemmas.List.{drop_all}
 use Rattle.std.specs.Prelude.{string_bytes, slice_get, option_map}
 use Rattle.std.proofs.lemmas.Option.{slice_get_read}
 use Rattle.std.specs.Str.{bytes_eq}
-use Rattle.std.specs.Ordering.{nat_cmp, eq_by_cmp}
+use Rattle.std.specs.Ordering.{nat_cmp}
 use Rattle.std.specs.Cmp.Lexicographic.{slice_cmp, nat_list_cmp_total}
 use Rattle.std.specs.Cmp.{eq_by_cmp_equiv}
 use Rattle.std.specs.FinMap.{get, get-insert, get-empty}
 use Rattle.std.proofs.lemmas.Map.Text.{is_eq-slice_cmp}
 use Rattle.lat_shelf.specs.declared.stored.Stored.{Stored}
-use Rattle.lat_shelf.specs.Stored.{files_of, entry}
+use Rattle.lat_shelf.specs.Stored.{files_of}
 
 -- a name is that of the file at this place, or is looked up after it
 pub get_at : (stored : List Stored) (i : ℕ) (file : Stored) (name : List ℕ) → i < length stored → file ≡ get_or stored i file

@@ -1,0 +1,3 @@
+pub mod NumberFacts
+pub mod Files
+pub mod PlanFacts

@@ -1,0 +1,5 @@
+pub mod Words
+pub mod Asked
+pub mod Outside
+pub mod Writing
+pub mod PlanEnds
