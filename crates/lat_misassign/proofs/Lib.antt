@@ -1,0 +1,4 @@
+pub mod Identity
+pub mod Counts
+pub mod Valid
+pub mod Swaps

@@ -1,0 +1,83 @@
+-- A list of sources with no fault is a misassignment.
+use Rattle.std.proofs.Common.{◌≡◌, ◌≤◌, ◌+◌, ◌++◌, ℕ, Bool, true, false, not, List, [], ◌∷◌, length, take, cond, if◌then◌else◌, count_by, refl, ap, sym, ◌∙◌, subst, arith, Option, Some, None, inl, inr, length-append, append_assoc}
+use Rattle.std.specs.Prelude.{◌==◌, ◌||◌, nat_lt}
+use Rattle.std.specs.List.{list_any}
+use Rattle.std.proofs.Math.Seq.{take-append_seam}
+use Rattle.std.proofs.lemmas.List.{append-nil}
+use Rattle.std.proofs.lemmas.List.Sums.{sum_by-cons, sum_by-append}
+use Rattle.std.proofs.lemmas.Bool.{cases_eq}
+use Rattle.std.proofs.lemmas.Bool.Decides.{nat_tests}
+use Rattle.lat_base.specs.Misassignment.{IsMisassignment}
+use Rattle.lat_misassign.specs.declared.fault.MisFault.TheVariants.{OutOfRange, Repeated}
+use Rattle.lat_misassign.specs.Sources.{AreSources}
+use Rattle.lat_misassign.specs.SourceFault.{fault_from, source_fault}
+use Rattle.lat_misassign.proofs.Counts.{count_of, one_fewer}
+
+-- where nothing is found, the test failed and nothing is found after it
+nothing : {A : Type 0} (b : Bool) (x : A) (y : Option A) → cond b (Some x) y ≡ None → (b ≡ false) × (y ≡ None)
+nothing true x y h = cc
+nothing false x y h = (refl, h)
+
+neither : (a b : Bool) → (a || b) ≡ false → (a ≡ false) × (b ≡ false)
+neither true b h = cc
+neither false b h = (refl, h)
+
+-- a number that isn't there stands no time
+none_counted : (t : ℕ) (s : List ℕ) → list_any (λ x. x == t) s ≡ false → count_of t s ≡ 0
+none_counted t [] h = refl
+none_counted t (x ∷ s) h =
+    let parts = neither (x == t) (list_any (λ y. y == t) s) h in
+    let here : ◌≡◌ {A = ℕ} (cond (x == t) 1 0) 0 = ap (λ (b : Bool). cond b 1 0) parts.0 in
+    omega (arith, sum_by-cons (λ (y : ℕ). cond (y == t) 1 0) x s, here, none_counted t s parts.1)
+
+-- one more number at the end, which stood nowhere before
+once_more : (before : List ℕ) (source t : ℕ) → ((u : ℕ) → count_of u before ≤ 1) → count_of source before ≡ 0 → count_of t (before ++ source ∷ []) ≤ 1
+once_more before source t once none = by_last before source t once none (source == t) refl
+  where
+    by_last : (before : List ℕ) (source t : ℕ) → ((u : ℕ) → count_of u before ≤ 1) → count_of source before ≡ 0 → (b : Bool) → (source == t) ≡ b → count_of t (before ++ source ∷ []) ≤ 1
+    by_last before source t once none true e =
+        let same : source ≡ t = grind (arith, nat_tests) in
+        let here : ◌≡◌ {A = ℕ} (cond (source == t) 1 0) 1 = ap (λ (b : Bool). cond b 1 0) e in
+        omega (arith, sum_by-append (λ (y : ℕ). cond (y == t) 1 0) before (source ∷ []), sum_by-cons (λ (y : ℕ). cond (y == t) 1 0) source [], here, none, ap (λ (m : ℕ). count_of m before) same)
+    by_last before source t once none false e =
+        let here : ◌≡◌ {A = ℕ} (cond (source == t) 1 0) 0 = ap (λ (b : Bool). cond b 1 0) e in
+        omega (arith, sum_by-append (λ (y : ℕ). cond (y == t) 1 0) before (source ∷ []), sum_by-cons (λ (y : ℕ). cond (y == t) 1 0) source [], here, once t)
+
+-- every source is a target, and none stands twice
+pub record Sound (n : ℕ) (s : List ℕ) : Type 0 where
+  pub once : (t : ℕ) → count_of t s ≤ 1
+  pub below : count_by (λ x. nat_lt x n) s ≡ length s
+
+sound_more : (n : ℕ) (before : List ℕ) (source : ℕ) → Sound n before → nat_lt source n ≡ true → count_of source before ≡ 0 → Sound n (before ++ source ∷ [])
+sound_more n before source sound lt none =
+    let here : ◌≡◌ {A = ℕ} (cond (nat_lt source n) 1 0) 1 = ap (λ (b : Bool). cond b 1 0) lt in
+    record {
+      once = λ t. once_more before source t sound.once none;
+      below = omega (arith, sum_by-append (λ (y : ℕ). cond (nat_lt y n) 1 0) before (source ∷ []), sum_by-cons (λ (y : ℕ). cond (nat_lt y n) 1 0) source [], here, sound.below, length-append before (source ∷ []));
+    }
+
+sound_from : (all before rest : List ℕ) → all ≡ before ++ rest → Sound (length all) before → fault_from all (length before) rest ≡ None → Sound (length all) all
+sound_from all before [] e sound h = subst (Sound (length all)) (sym (e ∙ append-nil before)) sound
+sound_from all before (source ∷ rest) e sound h =
+    let range = nothing (not (nat_lt source (length all))) (OutOfRange (length before)) (if list_any (λ x. x == source) (take (length before) all) then Some (Repeated (length before)) else fault_from all (length before + 1) rest) h in
+    let new = nothing (list_any (λ x. x == source) (take (length before) all)) (Repeated (length before)) (fault_from all (length before + 1) rest) range.1 in
+    let front : take (length before) all ≡ before = ap (take (length before)) e ∙ take-append_seam before (source ∷ rest) in
+    let none = none_counted source before (ap (list_any (λ x. x == source)) (sym front) ∙ new.0) in
+    let lt : nat_lt source (length all) ≡ true = grind (arith, nat_tests, range.0) in
+    let long : length before + 1 ≡ length (before ++ source ∷ []) = omega (arith, length-append before (source ∷ [])) in
+    sound_from all (before ++ source ∷ []) rest (e ∙ sym (append_assoc before (source ∷ []) rest)) (sound_more (length all) before source sound lt none)
+    (subst (λ (i : ℕ). fault_from all i rest ≡ None) long new.1)
+
+pub valid : (s : List ℕ) → source_fault s ≡ None → IsMisassignment (length s) s
+valid s h =
+    let sound = sound_from s [] s refl (record { once = λ t. omega arith; below = refl }) h in
+    record {
+      long = refl;
+      once = λ t lt. elim (cases_eq (count_of t s) 0) [
+        | inl none ↦ absurd (omega (arith, one_fewer s (length s) t sound.once lt none, sound.below))
+        | inr some ↦ omega (arith, sound.once t, some)
+      ];
+    }
+
+pub valid_sources : (s : List ℕ) → source_fault s ≡ None → 1 ≤ length s → length s ≤ 256 → AreSources s
+valid_sources s h some few = record { some = some; few = few; is = valid s h }

@@ -1,0 +1,138 @@
+ghost use Rattle.std.specs.Prelude.{◌≡◌, ◌≢◌, ◌<◌, ◌≤◌, ◌↔◌, None, Some, Err, length, swap, IsTrue, IfOk, OnOk};
+ghost use Rattle.std.specs.List.{list_any};
+ghost use Rattle.lat_base.specs.Shape.{contest_at};
+ghost use Rattle.lat_base.specs.Misassignment.{IsMisassignment, identity, source};
+ghost use Rattle.lat_misassign.specs.Sources.{AreSources, contests_exchanged};
+ghost use Rattle.lat_misassign.specs.SourceFault.{source_fault};
+
+use crate::MisFault;
+use lat_base::Shape;
+use std::alloc::{AllocError, Global};
+use std::marker::Model;
+
+/// A misassignment of 1 to 256 targets: for each target `u` the source, whose marks count for `u`.
+/// Each target is the source of exactly one.
+#[derive(Debug, Drop)]
+pub struct Misassignment {
+    sources: Vec<u16>,
+}
+
+impl Model for Misassignment {
+    ghost use Rattle.std.specs.Prelude.{List, ℕ};
+    ghost use Rattle.lat_misassign.specs.Sources.{AreSources};
+
+    ghost Value = { List ℕ };
+
+    ghost view = { λ a. a.sources.items };
+
+    ghost invariant = { λ a. AreSources a.sources.items };
+}
+
+// The first place whose source isn't below the length or stood before.
+fn find_fault(sources: &[u16]) -> Option<MisFault>
+    requires { length sources.now ≤ 256 }
+    ensures { result ≡ source_fault sources.now }
+{
+    for (i, source) in sources.iter().enumerate() {
+        if usize::from(*source) >= sources.len() {
+            return Some(MisFault::OutOfRange(i as u16));
+        }
+        if sources[..i].contains(source) {
+            return Some(MisFault::Repeated(i as u16));
+        }
+    }
+    None
+}
+
+impl Misassignment {
+    /// The identity of `n` targets: each target counts for itself.
+    #[tactic(auto, using(crate::proofs::Identity::identity_sources, crate::proofs::Identity::identity_more))]
+    pub fn identity(alloc: Global, n: u16) -> Result<Misassignment, AllocError>
+        requires some { 1 ≤ n }
+        requires few { n ≤ 256 }
+        ensures { IfOk result (λ s. s ≡ identity n) }
+    {
+        let mut sources = Vec::with_capacity(alloc, usize::from(n))?;
+        for t in 0..n {
+            sources.push(t)?;
+        }
+        Ok(Misassignment { sources })
+    }
+
+    /// The misassignment of these sources, or the first place that is wrong: a source that isn't
+    /// below the number of sources, or that stood before.
+    #[tactic(auto, using(crate::proofs::Valid::valid_sources))]
+    pub fn from_sources(alloc: Global, sources: &[u16]) -> Result<Misassignment, MisFault>
+        requires some { 1 ≤ length sources.now }
+        requires few { length sources.now ≤ 256 }
+        ensures ok { IfOk result (λ s. s ≡ sources.now) }
+        ensures valid { OnOk result (IsMisassignment (length sources.now) sources.now) }
+        ensures fault { (f : MisFault) → f ≢ MisFault.Memory → (result ≡ Err f) ↔ (source_fault sources.now ≡ Some f) }
+    {
+        if let Some(fault) = find_fault(sources) {
+            return Err(fault);
+        }
+        match Vec::from_slice(alloc, sources) {
+            Ok(sources) => Ok(Misassignment { sources }),
+            Err(_) => Err(MisFault::Memory),
+        }
+    }
+
+    /// The exchange of the targets `t` and `u`, of `n` targets in all.
+    #[tactic(auto, using(crate::proofs::Identity::identity_long, crate::proofs::Swaps::sources_swapped))]
+    pub fn swap(alloc: Global, n: u16, t: u16, u: u16) -> Result<Misassignment, AllocError>
+        requires few { n ≤ 256 }
+        requires first { t < n }
+        requires second { u < n }
+        ensures { IfOk result (λ s. s ≡ swap (identity n) t u) }
+    {
+        let mut s = Misassignment::identity(alloc, n)?;
+        s.sources.swap(usize::from(t), usize::from(u));
+        Ok(s)
+    }
+
+    /// An equal misassignment.
+    pub fn copy(&self, alloc: Global) -> Result<Misassignment, AllocError>
+        ensures { IfOk result (λ s. s ≡ self.now) }
+    {
+        Ok(Misassignment {
+            sources: Vec::from_slice(alloc, self.sources.as_slice())?,
+        })
+    }
+
+    /// How many targets there are.
+    pub fn len(&self) -> u16
+        ensures count { result ≡ length self.now }
+        ensures sources { AreSources self.now }
+    {
+        self.sources.len() as u16
+    }
+
+    /// The sources, in target order.
+    pub fn as_slice(&self) -> &[u16]
+        ensures sources { result.now ≡ self.now }
+        ensures valid { AreSources self.now }
+    {
+        self.sources.as_slice()
+    }
+
+    /// The target whose marks count for `u`.
+    pub fn source(&self, u: u16) -> u16
+        requires { u < length self.now }
+        ensures { result ≡ source self.now u }
+    {
+        self.sources[usize::from(u)]
+    }
+
+    /// Whether each target counts for itself.
+    pub fn is_identity(&self) -> bool
+        ensures { IsTrue result ↔ (self.now ≡ identity (length self.now)) }
+    {
+        for (u, source) in self.sources.iter().enumerate() {
+            if usize::from(*source) != u {
+                return false;
+            }
+        }
+        true
+    }
+}
