@@ -1,0 +1,9 @@
+use Rattle.std.proofs.Common.{◌≡◌, ◌≤◌, count_by, take}
+use Rattle.lat_base.specs.Tally.{votes_for}
+use Rattle.lat_tabulate.proofs.totals.total.Given as goal
+
+abbrev pub invariant-loop-j : goal.invariant-loop-j
+invariant-loop-j l = record {
+  count : l.votes ≡ count_by (λ ballot. votes_for l.shape ballot l.u) (take l.j l.deck.ballots);
+  small : l.votes ≤ l.j;
+}
