@@ -61,12 +61,13 @@ impl Misassignment {
 
     /// The misassignment of these sources, or the first place that is wrong: a source that isn't
     /// below the number of sources, or that stood before.
-    #[tactic(auto, using(crate::proofs::Valid::valid_sources))]
+    #[tactic(auto, using(crate::proofs::Valid::valid_sources, crate::proofs::Valid::faulty))]
     pub fn from_sources(alloc: Global, sources: &[u16]) -> Result<Misassignment, MisFault>
         requires some { 1 ≤ length sources.now }
         requires few { length sources.now ≤ 256 }
         ensures ok { IfOk result (λ s. s ≡ sources.now) }
         ensures valid { OnOk result (IsMisassignment (length sources.now) sources.now) }
+        ensures refused { (f : MisFault) → f ≢ MisFault.Memory → result ≡ Err f → ¬ IsMisassignment (length sources.now) sources.now }
         ensures fault { (f : MisFault) → f ≢ MisFault.Memory → (result ≡ Err f) ↔ (source_fault sources.now ≡ Some f) }
     {
         if let Some(fault) = find_fault(sources) {
