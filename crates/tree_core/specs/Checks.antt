@@ -9,7 +9,8 @@ abbrev mutual
   -- a tree checks at a state, where `open_holds` says whether an open leaf does
   pub ChecksWith : {S B R : Type 0} → Bool → Steps S B R → S → Rose B R → Type 0
   ChecksWith open_holds steps s (Closed r) = steps.closes s r ≡ true
-  ChecksWith open_holds steps s (Forked l ts) = (steps.arity s l ≡ Some (count ts)) × KidsCheckWith open_holds steps s l 0 ts
+  ChecksWith open_holds steps s (Forked l ts) =
+      (steps.arity s l ≡ Some (count ts)) × KidsCheckWith open_holds steps s l 0 ts
   ChecksWith open_holds steps s Opened = IsTrue open_holds
 
   -- each tree checks at its kid of the state, from kid number k on

@@ -16,9 +16,11 @@ HasOpen ns = (i : ℕ) × (slice_get ns i ≡ Some Open)
 -- no Close or Fork node comes after an Open one
 abbrev pub IsGapless : {B R : Type 0} → List (Node B R) → Type 0
 IsGapless {B} {R} ns =
-    (i j : ℕ) (n : Node B R) → i < j → slice_get ns i ≡ Some Open → slice_get ns j ≡ Some n → is_pick n ≡ false
+    (i j : ℕ) (n : Node B R) → i < j → slice_get ns i ≡ Some Open → slice_get ns j ≡ Some n
+    → is_pick n ≡ false
 
 -- the node at place i is open, and those before it are Close and Fork nodes
 abbrev pub IsFirstOpen : {B R : Type 0} → List (Node B R) → ℕ → Type 0
 IsFirstOpen {B} {R} ns i =
-    (slice_get ns i ≡ Some Open) × ((j : ℕ) (n : Node B R) → j < i → slice_get ns j ≡ Some n → is_pick n ≡ true)
+    (slice_get ns i ≡ Some Open)
+    × ((j : ℕ) (n : Node B R) → j < i → slice_get ns j ≡ Some n → is_pick n ≡ true)

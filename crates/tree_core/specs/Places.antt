@@ -11,7 +11,8 @@ abbrev pub kids_from : {S B R : Type 0} → Steps S B R → S → B → ℕ → 
 kids_from steps s l k zero = []
 kids_from steps s l k (suc n) = steps.kid s l k ∷ kids_from steps s l (suc k) n
 
--- the states that are still to come, the nearest first, after a node at the first of them: a Fork puts its kids in its place
+-- the states that are still to come, the nearest first, after a node at the first of them: a Fork
+-- puts the kids of its state in its place
 abbrev pub after : {S B R : Type 0} → Steps S B R → List S → Node B R → List S
 after steps [] node = []
 after steps (s ∷ ss) (Close r) = ss
@@ -28,12 +29,15 @@ abbrev pub state_at : {S B R : Type 0} → Steps S B R → S → List (Node B R)
 state_at steps root nodes i = slice_get (ahead steps (root ∷ []) (take i nodes)) 0
 
 -- at each place something holds of the nodes before it, its state and its node
-abbrev pub EachPlace : {S B R : Type 0} → Steps S B R → S → List (Node B R) → (List (Node B R) → S → Node B R → Type 0) → Type 0
+abbrev pub EachPlace : {S B R : Type 0} → Steps S B R → S → List (Node B R)
+    → (List (Node B R) → S → Node B R → Type 0) → Type 0
 EachPlace {S} {B} {R} steps root nodes P =
-    (i : ℕ) (s : S) (node : Node B R) → slice_get nodes i ≡ Some node → state_at steps root nodes i ≡ Some s → P (take i nodes) s node
+    (i : ℕ) (s : S) (node : Node B R) → slice_get nodes i ≡ Some node
+    → state_at steps root nodes i ≡ Some s → P (take i nodes) s node
 
 -- the nodes before place i hold at their states, and the one at place i doesn't
-pub record IsFirstFault {S B R : Type 0} (open_holds : Bool) (steps : Steps S B R) (root : S) (nodes : List (Node B R)) (i : ℕ) : Type 0 where
+pub record IsFirstFault {S B R : Type 0} (open_holds : Bool) (steps : Steps S B R) (root : S)
+    (nodes : List (Node B R)) (i : ℕ) : Type 0 where
   pub before : EachPlace steps root (take i nodes) (λ _ s node. NodeHolds open_holds steps s node)
   pub state : S
   pub node : Node B R
@@ -51,4 +55,5 @@ abbrev mutual
   -- the states of the nodes of several trees, at the kids of a state from number k on
   pub states_of_all : {S B R : Type 0} → Steps S B R → S → B → ℕ → Roses B R → List S
   states_of_all steps s l k none = []
-  states_of_all steps s l k (more t ts) = states_of steps (steps.kid s l k) t ++ states_of_all steps s l (suc k) ts
+  states_of_all steps s l k (more t ts) =
+      states_of steps (steps.kid s l k) t ++ states_of_all steps s l (suc k) ts
