@@ -4,10 +4,13 @@ ghost use Rattle.tree_core.specs.Steps.{Steps, IsKid};
 /// A space of states that is searched by trees: a state has kids under each label that is allowed
 /// there, and a reason may close it.
 pub trait Space {
+    /// A state, with the way back to those that it was entered from.
     type State: Drop;
 
+    /// What a state is forked on.
     type Label: Drop;
 
+    /// What closes a state.
     type Reason: Drop;
 
     /// What the calls answer, at each state.

@@ -7,8 +7,10 @@ use tree_core::Space;
 
 /// Picks at each state what a search does there.
 pub trait Chooser<S: Space> {
+    /// What a Found pick shows of the complete state.
     type Proof: Drop;
 
+    /// What a Halt pick says of the state.
     type Why: Drop;
 
     /// The reasons that the chooser remembers.

@@ -38,6 +38,7 @@ pub fn search<S: Space, C: Chooser<S>>(
         (tree : List (Node S.Label S.Reason)) → result ≡ Result.Ok (Outcome.Closed tree) →
         Checks steps state.old (tree_of tree) × (count_by is_pick tree ≤ budget) ×
         (state.new ≡ state.old) }
+
     // A closed tree leaves the state no solution.
     ensures empty { (tree : List (Node S.Label S.Reason)) → result ≡ Result.Ok (Outcome.Closed tree) →
         (v : List ℕ) → S.is_solution space.now state.old v → ⊥ }
