@@ -1,0 +1,11 @@
+pub mod Lists
+pub mod Trees
+pub mod Ahead
+pub mod Visits
+pub mod OneTree
+pub mod Each
+pub mod Holding
+pub mod Walks
+pub mod Moves
+pub mod Below
+pub mod Empty

@@ -1,0 +1,4 @@
+pub mod Left
+pub mod Opens
+pub mod Picks
+pub mod Progress

@@ -1,0 +1,4 @@
+pub mod Habits
+pub mod Memory
+pub mod Outcome
+pub mod Turn
