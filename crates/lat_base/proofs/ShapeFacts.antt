@@ -1,18 +1,26 @@
 -- What the tests of a style show, and where its targets are.
-use Rattle.std.proofs.Common.{◌≡◌, ◌≤◌, ◌+◌, ℕ, Bool, true, false, not, List, [], ◌∷◌, Option, Some, None, cond, if◌then◌else◌, is_some, length, nat_lt, nat_eq, refl, arith}
+use Rattle.std.proofs.Common.{◌≡◌, ◌≤◌, ◌+◌, ℕ, Bool, true, false, not, List, [], ◌∷◌, Option, Some, None, cond, if◌then◌else◌, is_some, length, get_or, ap, ◌∙◌, nat_lt, nat_eq, refl, arith}
 use Rattle.std.specs.List.{AllByRecursion}
-use Rattle.std.proofs.lemmas.List.Sums.{sum_by-take-le}
-use Rattle.std.proofs.lemmas.List.Elements.{All-from_recursion}
+use Rattle.std.proofs.lemmas.List.{get_or_default, take_all}
+use Rattle.std.proofs.lemmas.List.Sums.{sum_by-take-le, sum_by-cons}
+use Rattle.std.proofs.lemmas.List.Elements.{All-from_recursion, All-head}
 use Rattle.std.proofs.lemmas.Bool.Decides.{nat_tests}
 use Rattle.lat_base.specs.declared.contest.Contest.{Contest}
 use Rattle.lat_base.specs.declared.shape_fault.ShapeFault.{ShapeFault}
 use Rattle.lat_base.specs.declared.shape_fault.ShapeFault.TheVariants.{Empty, TooManyContests, TooManyTargets}
-use Rattle.lat_base.specs.Shape.{IsShape, first_target, target_count}
+use Rattle.lat_base.specs.Shape.{IsShape, AreFirsts, first_target, target_count}
 use Rattle.lat_base.specs.ShapeFault.{contest_fault, shape_fault, is_in_range}
 
 -- a contest's first target is at most the number of targets
 pub first_target_le : (contests : List Contest) (c : ℕ) → first_target contests c ≤ target_count contests
 first_target_le contests c = sum_by-take-le (λ x. x.targets) contests c
+
+-- a style has a target
+pub some_target : (contests : List Contest) → IsShape contests → 1 ≤ target_count contests
+some_target [] is = absurd (omega (arith, is.some))
+some_target (c ∷ contests) is =
+    let first = All-head (λ (x : Contest). (1 ≤ x.targets) × (x.targets ≤ 64)) c contests is.counts in
+    omega (arith, sum_by-cons (λ (x : Contest). x.targets) c contests, first.0)
 
 -- where nothing is found, the test failed and nothing is found after it
 nothing : {A : Type 0} (b : Bool) (x : A) (y : Option A) → cond b (Some x) y ≡ None → (b ≡ false) × (y ≡ None)
@@ -59,3 +67,8 @@ is_shape contests h =
       counts = All-from_recursion _ contests fits.1;
       few_targets = sum;
     }
+
+-- the last of the first numbers is the number of targets, and there is one
+pub firsts_end : (contests : List Contest) (firsts : List ℕ) (n x : ℕ) → AreFirsts contests firsts → n ≡ length contests → x ≡ get_or firsts n x → x ≡ target_count contests
+firsts_end contests firsts n x are e is =
+    is ∙ get_or_default firsts n x 0 (omega (arith, are.long)) ∙ are.each n (omega arith) ∙ ap target_count (take_all n contests (omega arith))

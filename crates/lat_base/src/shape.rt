@@ -102,8 +102,10 @@ impl Shape {
     }
 
     /// How many targets there are in all.
+
     pub fn targets(&self) -> u16
         ensures count { result ≡ target_count self.now }
+        ensures some { 1 ≤ result }
         ensures shape { IsShape self.now }
     {
         self.firsts[self.contests.len()]

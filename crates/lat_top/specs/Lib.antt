@@ -3,3 +3,4 @@ pub mod Asked
 pub mod Outside
 pub mod Writing
 pub mod PlanEnds
+pub mod Trying

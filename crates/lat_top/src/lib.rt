@@ -1,23 +1,18 @@
 //! Plans test decks: from the words of a call and the files to files, text and a status.
 #![tactic(auto)]
 
-mod answer;
 mod define;
 mod output;
-mod plan;
+mod plain_robust;
 mod plan_words;
 mod put;
 mod refusal;
 mod status;
 mod text;
-mod top;
 mod word_fault;
 mod words;
 mod write;
 
+pub use plain_robust::is_robust;
 pub use status::Status;
-pub use top::run;
 pub use word_fault::WordFault;
-
-#[cfg(test)]
-mod tests;

@@ -1,0 +1,19 @@
+-- Reports, number by number.
+use Rattle.std.proofs.Common.{◌≡◌, ◌≤◌, ◌<◌, ◌+◌, ◌++◌, ℕ, zero, suc, Bool, List, [], ◌∷◌, length, take, get_or, map, ap, sym, ◌∙◌, arith, length-append}
+use Rattle.std.specs.List.{range_with_len}
+use Rattle.std.proofs.lemmas.List.{take_all, take_more, take-take}
+use Rattle.std.proofs.lemmas.List.FromFn.{get_or-map-range_with_len}
+use Rattle.std.proofs.Math.Seq.{take-append_seam}
+use Rattle.lat_base.specs.declared.contest.Contest.{Contest}
+use Rattle.lat_base.specs.Shape.{target_count}
+use Rattle.lat_base.specs.Tally.{report, total}
+
+pub report_at : (contests : List Contest) (deck : List (List Bool)) (s : List ℕ) (u : ℕ) → u < target_count contests → get_or (report contests deck s) u 0 ≡ total contests deck s u
+report_at contests deck s u h = get_or-map-range_with_len (total contests deck s) 0 (target_count contests) u u 0 h (omega arith)
+
+alike : (f g : ℕ → ℕ) (a n : ℕ) → ((u : ℕ) → a ≤ u → u < a + n → f u ≡ g u) → map f (range_with_len a n) ≡ map g (range_with_len a n)
+alike f g a zero h = λ i. []
+alike f g a (suc n) h = λ i. h a (omega arith) (omega arith) i ∷ alike f g (a + 1) n (λ u low high. h u (omega arith) (omega arith)) i
+
+pub same_report : (contests : List Contest) (deck : List (List Bool)) (s o : List ℕ) → ((u : ℕ) → u < target_count contests → total contests deck s u ≡ total contests deck o u) → report contests deck s ≡ report contests deck o
+same_report contests deck s o h = alike (total contests deck s) (total contests deck o) 0 (target_count contests) (λ u low high. h u (omega arith))
