@@ -4,3 +4,4 @@ pub mod PlanFacts
 pub mod Reports
 pub mod Fronts
 pub mod Tried
+pub mod Decks

@@ -4,6 +4,7 @@
 mod define;
 mod output;
 mod plain_robust;
+mod plain_search;
 mod plan_words;
 mod put;
 mod refusal;
@@ -13,6 +14,6 @@ mod word_fault;
 mod words;
 mod write;
 
-pub use plain_robust::is_robust;
+pub use plain_search::least_deck;
 pub use status::Status;
 pub use word_fault::WordFault;

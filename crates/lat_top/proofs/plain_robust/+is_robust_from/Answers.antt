@@ -27,7 +27,7 @@ returns-then-not-branch-clause-robust t c =
     let front = front_set c.loop-t.sources c.args.sources.now c.args.u c.loop-t.t lt c.loop-t.invariant.kept in
     evades_less cs deck (take c.args.u c.args.sources.now) c.loop-t.t
     (subst (λ (b : Bool). MatchBool b (RobustFrom cs deck (take c.args.u c.args.sources.now ++ c.loop-t.t ∷ [])) (EvadesFrom cs deck (take c.args.u c.args.sources.now ++ c.loop-t.t ∷ []))) c.if-not-branch.true
-      (subst (λ (f : List ℕ). MatchBool c.in_ok-is_robust_from.field-0 (RobustFrom cs deck f) (EvadesFrom cs deck f)) front c.in_ok-is_robust_from.ensures.robust))
+    (subst (λ (f : List ℕ). MatchBool c.in_ok-is_robust_from.field-0 (RobustFrom cs deck f) (EvadesFrom cs deck f)) front c.in_ok-is_robust_from.ensures.robust))
 
 pub loop-t-preserved : goal.loop-t-preserved
 loop-t-preserved t c =
@@ -40,7 +40,7 @@ loop-t-preserved t c =
       long = search rules;
       tried = below_more (λ (x : ℕ). RobustFrom cs deck (take c.args.u c.args.sources.now ++ x ∷ [])) c.loop-t.t c.loop-t.invariant.tried
           (subst (λ (b : Bool). MatchBool b (RobustFrom cs deck (take c.args.u c.args.sources.now ++ c.loop-t.t ∷ [])) (EvadesFrom cs deck (take c.args.u c.args.sources.now ++ c.loop-t.t ∷ []))) c.if-not-branch.false
-            (subst (λ (f : List ℕ). MatchBool c.in_ok-is_robust_from.field-0 (RobustFrom cs deck f) (EvadesFrom cs deck f)) front c.in_ok-is_robust_from.ensures.robust));
+          (subst (λ (f : List ℕ). MatchBool c.in_ok-is_robust_from.field-0 (RobustFrom cs deck f) (EvadesFrom cs deck f)) front c.in_ok-is_robust_from.ensures.robust));
     }
 
 pub returns-clause-robust : goal.returns-clause-robust
