@@ -1,0 +1,12 @@
+pub mod Lists
+pub mod RuleFacts
+pub mod Ids
+pub mod Chosen
+pub mod Steps
+pub mod ContestLimits
+pub mod KeptFacts
+pub mod StyleLimits
+pub mod Text
+pub mod NamesOnce
+pub mod ShapeSound
+pub mod StylePlace

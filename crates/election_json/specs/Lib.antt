@@ -1,0 +1,9 @@
+pub mod Fault
+pub mod Member
+pub mod Entry
+pub mod Rules
+pub mod Contests
+pub mod Styles
+pub mod Limits
+pub mod Definition
+pub mod Kept

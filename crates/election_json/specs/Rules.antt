@@ -1,0 +1,18 @@
+-- The rules of a definition.
+use Rattle.std.specs.Prelude.{codes, Result, Ok}
+use Rattle.serde_json.specs.Data.{Data}
+use Rattle.lat_base.specs.Rules.{RuleSet}
+use Rattle.election_json.specs.declared.place.Place.TheVariants as at
+use Rattle.election_json.specs.declared.fault.DefFault.{DefFault}
+use Rattle.election_json.specs.Fault.{◌>>=◌}
+use Rattle.election_json.specs.Member.{member, object, boolean, number}
+
+-- the member `rules` of a definition: `distinct`, `least`, `blank` and `over`, in this order
+unfoldable pub rules_of : Data → Result RuleSet DefFault
+rules_of top = do
+  rules ← member (codes "rules") at.Rules top >>= object at.Rules
+  distinct ← member (codes "distinct") at.Distinct rules >>= boolean at.Distinct
+  least ← member (codes "least") at.Least rules >>= number 0 64 at.Least
+  blank ← member (codes "blank") at.Blank rules >>= number 0 16 at.Blank
+  over ← member (codes "over") at.Over rules >>= number 0 16 at.Over
+  Ok (record { distinct = distinct; least = least; blank = blank; over = over })
