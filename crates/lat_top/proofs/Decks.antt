@@ -106,7 +106,7 @@ marks_set contests deck new place n on first is targets e some sized lt same set
     let t : place % n < n = omega (arith, positive) in
     ap (λ (d : Ballots). take (place + 1) (marks_of d.ballots)) set_so
     ∙ ap (take (place + 1)) (marks_of-set n deck.ballots (place / n) (place % n) on fits (place_ballot place n (length deck.ballots) positive inside) t
-      ∙ ap (λ (i : ℕ). set (marks_of deck.ballots) i on) (place_back place n positive))
+    ∙ ap (λ (i : ℕ). set (marks_of deck.ballots) i on) (place_back place n positive))
     ∙ front_set (marks_of deck.ballots) (marks_of first) place on (omega (arith, inside, length-marks_of n deck.ballots fits)) same
 
 -- what is known of the second fact where the first doesn't hold

@@ -1,6 +1,4 @@
 pub mod NumberFacts
-pub mod Files
-pub mod PlanFacts
 pub mod Reports
 pub mod Fronts
 pub mod Tried

@@ -1,6 +1,7 @@
 pub mod Words
 pub mod Asked
 pub mod Outside
-pub mod Writing
-pub mod PlanEnds
+pub mod AskedStyle
+pub mod Summary
 pub mod Trying
+pub mod StatusLine

@@ -1,19 +1,21 @@
 //! Plans test decks: from the words of a call and the files to files, text and a status.
 #![tactic(auto)]
 
-mod define;
-mod output;
+mod asked_style;
+mod finding;
 mod plain_robust;
 mod plain_search;
 mod plan_words;
-mod put;
 mod refusal;
 mod status;
-mod text;
+mod status_text;
+mod summary;
 mod word_fault;
 mod words;
-mod write;
 
+pub use finding::find_style;
 pub use plain_search::least_deck;
 pub use status::Status;
+pub use summary::{least_summary, none_summary};
 pub use word_fault::WordFault;
+pub use words::read_words;

@@ -1,11 +1,14 @@
+use election_json::{DefFail, DefFault};
 use std::alloc::{AllocError, AllocFailed};
 
 /// Why there is no plan.
 #[derive(Clone, Copy, Debug, PartialEq, Eq)]
 pub enum Refusal {
     Memory,
-    Definition,
+    /// The first fault of the definition.
+    Definition(DefFault),
     NoStyle,
+    /// The size cap times the number of targets.
     TooWide(u32),
 }
 

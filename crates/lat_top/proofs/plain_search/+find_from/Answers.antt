@@ -16,7 +16,7 @@ returns-then-place-from-clause-found t c =
     let deck = c.args.deck.now in
     let fits = deck_fits cs deck c.ballots.ensures.deck c.requires.targets in
     let end : c.args.place ≡ length deck.ballots * target_count cs =
-      c.if-place-from.true ∙ (λ i. (c.from.ensures ∙ c.ballots.ensures.count) i * (c.from-targets.ensures ∙ c.targets.ensures.count) i) in
+    c.if-place-from.true ∙ (λ i. (c.from.ensures ∙ c.ballots.ensures.count) i * (c.from-targets.ensures ∙ c.targets.ensures.count) i) in
     match_more _ _ _ c.in_ok-good.good c.in_ok-good.ensures (none_here cs c.args.rules.now deck.ballots c.args.place fits end)
 
 pub returns-then-branch-clause-kept : goal.returns-then-branch-clause-kept
@@ -46,7 +46,7 @@ returns-clause-kept t c =
     let first = marks_set cs deck c.set.new.self place c.from-targets.result false deck.ballots c.ballots.ensures.deck c.requires.targets n some refl lt refl c.set.ensures in
     let kept = front_kept (marks_of c.find_from.new.deck.ballots) (marks_of deck.ballots) place false (omega (arith, lt, sized)) (c.in_ok-find_from.ensures.kept ∙ first) in
     let same : length c.find_from.new.deck.ballots ≡ length deck.ballots =
-      c.in_ok-find_from.ensures.ballots ∙ ap (λ (d : Ballots). length d.ballots) c.set.ensures ∙ length-set deck.ballots _ _ in
+    c.in_ok-find_from.ensures.ballots ∙ ap (λ (d : Ballots). length d.ballots) c.set.ensures ∙ length-set deck.ballots _ _ in
     let targets : c.find_from.new.deck.targets ≡ target_count cs = c.in_ok-find_from.ensures.targets ∙ ap (λ (d : Ballots). d.targets) c.set.ensures ∙ c.requires.targets in
     let second = marks_set cs c.find_from.new.deck c.set-2.new.self place c.from-targets.result true deck.ballots c.ballots-ballots.ensures.deck targets n some same lt kept c.set-2.ensures in
     front_kept (marks_of c.find_from-2.new.deck.ballots) (marks_of deck.ballots) place true (omega (arith, lt, sized)) (c.in_ok-found.ensures.kept ∙ second)
@@ -64,7 +64,7 @@ returns-clause-found t c =
     let first = marks_set cs deck c.set.new.self place c.from-targets.result false deck.ballots c.ballots.ensures.deck c.requires.targets n some refl lt refl c.set.ensures in
     let kept = front_kept (marks_of c.find_from.new.deck.ballots) (marks_of deck.ballots) place false (omega (arith, lt, sized)) (c.in_ok-find_from.ensures.kept ∙ first) in
     let same : length c.find_from.new.deck.ballots ≡ length deck.ballots =
-      c.in_ok-find_from.ensures.ballots ∙ ap (λ (d : Ballots). length d.ballots) c.set.ensures ∙ length-set deck.ballots _ _ in
+    c.in_ok-find_from.ensures.ballots ∙ ap (λ (d : Ballots). length d.ballots) c.set.ensures ∙ length-set deck.ballots _ _ in
     let targets : c.find_from.new.deck.targets ≡ target_count cs = c.in_ok-find_from.ensures.targets ∙ ap (λ (d : Ballots). d.targets) c.set.ensures ∙ c.requires.targets in
     let second = marks_set cs c.find_from.new.deck c.set-2.new.self place c.from-targets.result true deck.ballots c.ballots-ballots.ensures.deck targets n some same lt kept c.set-2.ensures in
     let rules = c.args.rules.now in
@@ -72,7 +72,7 @@ returns-clause-found t c =
     let once : length c.set.new.self.ballots ≡ length deck.ballots = ap (λ (d : Ballots). length d.ballots) c.set.ensures ∙ length-set deck.ballots _ _ in
     let twice : length c.set-2.new.self.ballots ≡ length deck.ballots = ap (λ (d : Ballots). length d.ballots) c.set-2.ensures ∙ length-set c.find_from.new.deck.ballots _ _ ∙ same in
     let off = subst (λ (k : ℕ). NoGoodFrom cs rules k (front ++ false ∷ [])) once
-      (subst (NoGoodFrom cs rules (length c.set.new.self.ballots)) first (match_false _ _ c.in_ok-find_from.field-0 c.if-branch.false c.in_ok-find_from.ensures.found)) in
+    (subst (NoGoodFrom cs rules (length c.set.new.self.ballots)) first (match_false _ _ c.in_ok-find_from.field-0 c.if-branch.false c.in_ok-find_from.ensures.found)) in
     match_more _ _ _ c.in_ok-found.found c.in_ok-found.ensures.found
     (λ h. both_marks cs rules (length deck.ballots) place front (length-take-le place (marks_of deck.ballots) (omega (arith, lt, sized))) lt off
-      (subst (λ (k : ℕ). NoGoodFrom cs rules k (front ++ true ∷ [])) twice (subst (NoGoodFrom cs rules (length c.set-2.new.self.ballots)) second h)))
+    (subst (λ (k : ℕ). NoGoodFrom cs rules k (front ++ true ∷ [])) twice (subst (NoGoodFrom cs rules (length c.set-2.new.self.ballots)) second h)))

@@ -1,0 +1,55 @@
+ghost use Rattle.std.specs.Prelude.{◌≡◌, ◌<◌, ◌≤◌, ℕ, length, IfOk};
+ghost use Rattle.lat_base.specs.Names.{NamesFit};
+ghost use Rattle.election_json.specs.Definition.{DefinitionValue};
+ghost use Rattle.lat_top.specs.Asked.{kept};
+ghost use Rattle.lat_top.specs.AskedStyle.{asked_style, ruled_style, narrow_style, Finds};
+
+use crate::asked_style::AskedStyle;
+use crate::plan_words::PlanWords;
+use crate::refusal::Refusal;
+use election_json::{DefFail, Definition, read_definition};
+use std::alloc::{AllocError, Global};
+
+// Style number i, under the definition's rules.
+fn ruled_style(alloc: Global, definition: &Definition, i: u32) -> Result<AskedStyle, AllocError>
+    requires { i < length definition.now.styles }
+    ensures { IfOk result (λ style. style ≡ ruled_style definition.now i) }
+{
+    Ok(AskedStyle {
+        names: definition.names(alloc, i)?,
+        shape: definition.shape(alloc, i)?,
+        rules: definition.rules(),
+    })
+}
+
+// The style, where it is small enough to try every deck up to the size cap.
+fn narrow_style(style: AskedStyle, max: u16) -> Result<AskedStyle, Refusal>
+    requires { max ≤ 1024 }
+    ensures { Finds result (narrow_style max style) }
+{
+    let targets = u32::from(style.shape.targets());
+    let width = u32::from(max) * targets;
+    if width > 16 || targets > 4 {
+        return Err(Refusal::TooWide(width));
+    }
+    Ok(style)
+}
+
+/// The style that the words of a plan ask for, from the bytes of the definition, or the first
+/// refusal: the definition's first fault, then a style that isn't there, then one that is too wide.
+pub fn find_style(alloc: Global, bytes: &[u8], asked: &PlanWords<'_>) -> Result<AskedStyle, Refusal>
+    ensures { Finds result (asked_style (kept asked.now) bytes.now) }
+{
+    let definition = match read_definition(alloc, bytes) {
+        Ok(definition) => definition,
+        Err(DefFail::Fault(fault)) => return Err(Refusal::Definition(fault)),
+        Err(DefFail::Memory) => return Err(Refusal::Memory),
+    };
+    let Some(i) = definition.style(asked.style) else {
+        return Err(Refusal::NoStyle);
+    };
+    match ruled_style(alloc, &definition, i) {
+        Ok(style) => narrow_style(style, asked.max),
+        Err(_) => Err(Refusal::Memory),
+    }
+}
