@@ -1,0 +1,4 @@
+pub mod PlainRows
+pub mod Decimals
+pub mod Ranges
+pub mod Places

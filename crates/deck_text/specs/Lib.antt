@@ -1,0 +1,4 @@
+pub mod Line
+pub mod TargetNames
+pub mod DeckText
+pub mod TotalsText

@@ -1,0 +1,11 @@
+//! The tables of a test deck as CSV (RFC 4180, as the crate `csv` reads and writes it): the deck's
+//! ballots, the totals that it should give, and the report of a voting system.
+#![tactic(auto)]
+
+mod table;
+mod target_name;
+mod write_deck;
+mod write_totals;
+
+pub use write_deck::deck_csv;
+pub use write_totals::totals_csv;
