@@ -3,3 +3,5 @@ pub mod Reports
 pub mod Fronts
 pub mod Tried
 pub mod Decks
+pub mod Files
+pub mod PlanFacts

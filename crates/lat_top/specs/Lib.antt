@@ -3,5 +3,8 @@ pub mod Asked
 pub mod Outside
 pub mod AskedStyle
 pub mod Summary
-pub mod Trying
 pub mod StatusLine
+pub mod Trying
+pub mod Writing
+pub mod PlanAnswer
+pub mod PlanEnds

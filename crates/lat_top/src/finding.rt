@@ -11,10 +11,13 @@ use election_json::{DefFail, Definition, read_definition};
 use std::alloc::{AllocError, Global};
 
 // Style number i, under the definition's rules.
+#[tactic(auto, using(crate::proofs::PlanFacts::style_fits))]
 fn ruled_style(alloc: Global, definition: &Definition, i: u32) -> Result<AskedStyle, AllocError>
     requires { i < length definition.now.styles }
-    ensures { IfOk result (λ style. style ≡ ruled_style definition.now i) }
+    ensures style { IfOk result (λ style. style ≡ ruled_style definition.now i) }
+    ensures fits { IfOk result (λ style. NamesFit style.names.contests style.shape) }
 {
+    let _styles = definition.styles();
     Ok(AskedStyle {
         names: definition.names(alloc, i)?,
         shape: definition.shape(alloc, i)?,
@@ -25,7 +28,8 @@ fn ruled_style(alloc: Global, definition: &Definition, i: u32) -> Result<AskedSt
 // The style, where it is small enough to try every deck up to the size cap.
 fn narrow_style(style: AskedStyle, max: u16) -> Result<AskedStyle, Refusal>
     requires { max ≤ 1024 }
-    ensures { Finds result (narrow_style max style) }
+    ensures style { Finds result (narrow_style max style) }
+    ensures same { IfOk result (λ found. found ≡ style) }
 {
     let targets = u32::from(style.shape.targets());
     let width = u32::from(max) * targets;
@@ -38,7 +42,8 @@ fn narrow_style(style: AskedStyle, max: u16) -> Result<AskedStyle, Refusal>
 /// The style that the words of a plan ask for, from the bytes of the definition, or the first
 /// refusal: the definition's first fault, then a style that isn't there, then one that is too wide.
 pub fn find_style(alloc: Global, bytes: &[u8], asked: &PlanWords<'_>) -> Result<AskedStyle, Refusal>
-    ensures { Finds result (asked_style (kept asked.now) bytes.now) }
+    ensures style { Finds result (asked_style (kept asked.now) bytes.now) }
+    ensures fits { IfOk result (λ style. NamesFit style.names.contests style.shape) }
 {
     let definition = match read_definition(alloc, bytes) {
         Ok(definition) => definition,

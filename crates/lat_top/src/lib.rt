@@ -1,21 +1,23 @@
 //! Plans test decks: from the words of a call and the files to files, text and a status.
 #![tactic(auto)]
 
+mod answer;
 mod asked_style;
 mod finding;
+mod output;
 mod plain_robust;
 mod plain_search;
 mod plan_words;
+mod put;
 mod refusal;
 mod status;
 mod status_text;
 mod summary;
+mod top;
 mod word_fault;
 mod words;
+mod write;
 
-pub use finding::find_style;
-pub use plain_search::least_deck;
 pub use status::Status;
-pub use summary::{least_summary, none_summary};
+pub use top::run;
 pub use word_fault::WordFault;
-pub use words::read_words;

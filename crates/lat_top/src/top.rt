@@ -1,0 +1,83 @@
+ghost use Rattle.std.specs.Prelude.{◌≡◌, ◌≤◌, ◌↔◌, Ok, Err};
+ghost use Rattle.lat_top.specs.declared.word_fault.WordFault.{WordFault};
+ghost use Rattle.lat_top.specs.Words.{Plan, texts, asked_of};
+ghost use Rattle.lat_top.specs.Asked.{kept};
+ghost use Rattle.lat_top.specs.Outside.{Outside, Untouched};
+ghost use Rattle.lat_top.specs.PlanEnds.{PlanEnds, status_of};
+
+use crate::Status;
+use crate::answer::plan;
+use crate::output::Output;
+use crate::plan_words::PlanWords;
+use crate::refusal::Refusal;
+use crate::words::read_words;
+use crate::write::write_all;
+use lat_shelf::{OutFail, ReadFail, Shelf, Sink, read_whole};
+use std::alloc::Global;
+
+// How many bytes a definition may have.
+const DEFINITION_LIMIT: u32 = 8_388_608;
+
+fn status_of(refusal: Refusal) -> Status
+    ensures { result ≡ status_of refusal }
+{
+    match refusal {
+        Refusal::Memory => Status::Memory,
+        Refusal::Definition(fault) => Status::Definition(fault),
+        Refusal::NoStyle => Status::NoStyle,
+        Refusal::TooWide(width) => Status::TooWide(width),
+    }
+}
+
+// Plans the style of the definition that the words name, and writes the plan.
+fn run_plan<H: Shelf, K: Sink>(
+    alloc: Global,
+    asked: &PlanWords<'_>,
+    shelf: &mut H,
+    out: &mut K,
+) -> Status
+    ensures { PlanEnds (kept asked.now) result
+        (record { files = H.files shelf.old; given = K.given out.old; shelf_faults = H.faults shelf.old; sink_faults = K.faults out.old })
+        (record { files = H.files shelf.new; given = K.given out.new; shelf_faults = H.faults shelf.new; sink_faults = K.faults out.new }) }
+{
+    let definition = match read_whole(alloc, shelf, asked.definition, DEFINITION_LIMIT) {
+        Ok(definition) => definition,
+        Err(ReadFail::Fault) => return Status::ReadFault,
+        Err(ReadFail::TooLong(n)) => return Status::TooLong(n),
+        Err(ReadFail::Memory) => return Status::Memory,
+    };
+    match plan(alloc, definition.as_slice(), asked) {
+        Ok(
+            Output {
+                status,
+                puts,
+                summary,
+            },
+        ) => match write_all(shelf, out, &puts, summary.as_bytes()) {
+            Ok(()) => status,
+            Err(OutFail::Failed) => Status::WriteFault,
+            Err(OutFail::Memory) => Status::Memory,
+        },
+        Err(refusal) => status_of(refusal),
+    }
+}
+
+/// Does what the words after the program's name ask for: reads from the shelf, puts files there,
+/// and gives the summary to `out`.
+pub fn run<H: Shelf, K: Sink>(alloc: Global, words: &[String], shelf: &mut H, out: &mut K) -> Status
+    // The first fault in the words, exactly where they have one; then nothing is written.
+    ensures words { (fault : WordFault) → (result ≡ Status.Words fault) ↔ (asked_of (texts words.now) ≡ Err fault) }
+    ensures refused { (fault : WordFault) → asked_of (texts words.now) ≡ Err fault → Untouched
+        (record { files = H.files shelf.old; given = K.given out.old; shelf_faults = H.faults shelf.old; sink_faults = K.faults out.old })
+        (record { files = H.files shelf.new; given = K.given out.new; shelf_faults = H.faults shelf.new; sink_faults = K.faults out.new }) }
+
+    // What a plan leaves, by the status.
+    ensures plan { (plan : Plan) → asked_of (texts words.now) ≡ Ok plan → PlanEnds plan result
+        (record { files = H.files shelf.old; given = K.given out.old; shelf_faults = H.faults shelf.old; sink_faults = K.faults out.old })
+        (record { files = H.files shelf.new; given = K.given out.new; shelf_faults = H.faults shelf.new; sink_faults = K.faults out.new }) }
+{
+    match read_words(words) {
+        Ok(asked) => run_plan(alloc, &asked, shelf, out),
+        Err(fault) => Status::Words(fault),
+    }
+}

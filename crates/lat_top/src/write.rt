@@ -1,0 +1,45 @@
+ghost use Rattle.std.specs.Prelude.{◌≤◌, ◌≡◌, OnOk, IsErrOf};
+ghost use Rattle.lat_top.specs.Outside.{Outside};
+ghost use Rattle.lat_top.specs.Writing.{entries, files_after, FailedAt, StoppedAt, RoseSince, Wrote, WriteFails, WriteStops};
+
+use crate::put::Put;
+use lat_shelf::{OutFail, Shelf, Sink};
+
+// Puts files in order, up to the first that can't be put.
+fn put_all<H: Shelf>(shelf: &mut H, puts: &[Put]) -> Result<(), OutFail>
+    ensures ok { OnOk result (H.files shelf.new ≡ files_after (entries puts.now) (H.files shelf.old)) }
+    ensures failed { IsErrOf result OutFail.Failed → FailedAt (entries puts.now) (H.files shelf.old) (H.files shelf.new) }
+    ensures rose { IsErrOf result OutFail.Failed → RoseSince (H.faults shelf.old) (H.faults shelf.new) }
+    ensures memory { IsErrOf result OutFail.Memory → StoppedAt (entries puts.now) (H.files shelf.old) (H.files shelf.new) }
+{
+    for put in puts {
+        match shelf.put(put.name.as_str(), &put.bytes) {
+            Ok(()) => {}
+            Err(fail) => return Err(fail),
+        }
+    }
+    Ok(())
+}
+
+/// Puts files in order and then gives a summary, up to the first call that fails.
+pub fn write_all<H: Shelf, K: Sink>(
+    shelf: &mut H,
+    out: &mut K,
+    puts: &[Put],
+    summary: &[u8],
+) -> Result<(), OutFail>
+    ensures ok { OnOk result (Wrote (entries puts.now) summary.now
+        (record { files = H.files shelf.old; given = K.given out.old; shelf_faults = H.faults shelf.old; sink_faults = K.faults out.old })
+        (record { files = H.files shelf.new; given = K.given out.new; shelf_faults = H.faults shelf.new; sink_faults = K.faults out.new })) }
+    ensures failed { IsErrOf result OutFail.Failed → WriteFails (entries puts.now) summary.now
+        (record { files = H.files shelf.old; given = K.given out.old; shelf_faults = H.faults shelf.old; sink_faults = K.faults out.old })
+        (record { files = H.files shelf.new; given = K.given out.new; shelf_faults = H.faults shelf.new; sink_faults = K.faults out.new }) }
+    ensures memory { IsErrOf result OutFail.Memory → WriteStops (entries puts.now) summary.now
+        (record { files = H.files shelf.old; given = K.given out.old; shelf_faults = H.faults shelf.old; sink_faults = K.faults out.old })
+        (record { files = H.files shelf.new; given = K.given out.new; shelf_faults = H.faults shelf.new; sink_faults = K.faults out.new }) }
+{
+    match put_all(shelf, puts) {
+        Ok(()) => out.give(summary),
+        Err(fail) => Err(fail),
+    }
+}
