@@ -5,3 +5,4 @@ pub mod Tried
 pub mod Decks
 pub mod Files
 pub mod PlanFacts
+pub mod Completeness

@@ -8,3 +8,4 @@ pub mod Trying
 pub mod Writing
 pub mod PlanAnswer
 pub mod PlanEnds
+pub mod Complete

@@ -4,6 +4,7 @@ ghost use Rattle.lat_top.specs.Words.{Plan, texts, asked_of};
 ghost use Rattle.lat_top.specs.Asked.{kept};
 ghost use Rattle.lat_top.specs.Outside.{Outside, Untouched};
 ghost use Rattle.lat_top.specs.PlanEnds.{PlanEnds, status_of};
+ghost use Rattle.lat_top.specs.Complete.{CanPlan, IsPlanned};
 
 use crate::Status;
 use crate::answer::plan;
@@ -64,6 +65,7 @@ fn run_plan<H: Shelf, K: Sink>(
 
 /// Does what the words after the program's name ask for: reads from the shelf, puts files there,
 /// and gives the summary to `out`.
+#[tactic(auto, using(crate::proofs::Completeness::planned))]
 pub fn run<H: Shelf, K: Sink>(alloc: Global, words: &[String], shelf: &mut H, out: &mut K) -> Status
     // The first fault in the words, exactly where they have one; then nothing is written.
     ensures words { (fault : WordFault) → (result ≡ Status.Words fault) ↔ (asked_of (texts words.now) ≡ Err fault) }
@@ -75,6 +77,12 @@ pub fn run<H: Shelf, K: Sink>(alloc: Global, words: &[String], shelf: &mut H, ou
     ensures plan { (plan : Plan) → asked_of (texts words.now) ≡ Ok plan → PlanEnds plan result
         (record { files = H.files shelf.old; given = K.given out.old; shelf_faults = H.faults shelf.old; sink_faults = K.faults out.old })
         (record { files = H.files shelf.new; given = K.given out.new; shelf_faults = H.faults shelf.new; sink_faults = K.faults out.new }) }
+
+    // A plan that can be made is made.
+    ensures complete { (plan : Plan) → asked_of (texts words.now) ≡ Ok plan → CanPlan plan
+        (record { files = H.files shelf.old; given = K.given out.old; shelf_faults = H.faults shelf.old; sink_faults = K.faults out.old })
+        (record { files = H.files shelf.new; given = K.given out.new; shelf_faults = H.faults shelf.new; sink_faults = K.faults out.new })
+        → IsPlanned result }
 {
     match read_words(words) {
         Ok(asked) => run_plan(alloc, &asked, shelf, out),
