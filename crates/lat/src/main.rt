@@ -2,7 +2,7 @@
 #![tactic(auto)]
 
 use lat_shelf::{FileShelf, OutSink};
-use lat_top::run;
+use lat_top::{Status, run};
 use std::env;
 use std::io::ErrorKind;
 use std::process::ExitCode;
@@ -28,11 +28,34 @@ fn words(rt: &HostRuntime) -> Result<Vec<String>, u8> {
     Ok(words)
 }
 
+// Writes the line of a status to standard error, where there is memory for it.
+fn print_line(rt: &HostRuntime, status: Status) {
+    if let Ok(line) = status.line(rt.alloc()) {
+        if let Ok(text) = str::from_utf8(&line) {
+            let _ = eprint!(rt; "{text}");
+        }
+    }
+}
+
 fn main(rt: HostRuntime) -> ExitCode {
-    let mut shelf = FileShelf::new(&rt);
-    let mut out = OutSink::new(&rt);
     match words(&rt) {
-        Ok(words) => ExitCode::from(run(rt.alloc(), &words, &mut shelf, &mut out).code()),
-        Err(code) => ExitCode::from(code),
+        Ok(words) => {
+            let status = run(
+                rt.alloc(),
+                &words,
+                &mut FileShelf::new(&rt),
+                &mut OutSink::new(&rt),
+            );
+            if status.code() != 0 {
+                print_line(&rt, status);
+            }
+            ExitCode::from(status.code())
+        }
+        Err(code) => {
+            if code == WORDS {
+                let _ = eprint!(&rt; "words: not text\n");
+            }
+            ExitCode::from(code)
+        }
     }
 }

@@ -21,3 +21,6 @@ mod write;
 pub use status::Status;
 pub use top::run;
 pub use word_fault::WordFault;
+
+#[cfg(test)]
+mod tests;
