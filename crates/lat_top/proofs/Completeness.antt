@@ -1,6 +1,5 @@
 -- A plan that can be made is made.
-use Rattle.std.proofs.Common.{◌≡◌, ◌<◌, ◌≤◌, ◌⊎◌, ℕ, List, length, Option, Some, None, Result, Ok, Err, refl, ap, sym, ◌∙◌, subst, inl, inr, arith}
-use Rattle.std.specs.FinMap.{get}
+use Rattle.std.proofs.Common.{◌≡◌, ◌≤◌, ℕ, List, length, Option, Some, None, refl, ap, inl, inr, arith}
 use Rattle.lat_shelf.specs.Shelf.{Files, Rose, IsMissing}
 use Rattle.lat_shelf.specs.Read.{IsFile, IsLonger}
 use Rattle.lat_top.specs.declared.status.Status.{Status}
@@ -11,7 +10,7 @@ use Rattle.lat_top.specs.Words.{Plan}
 use Rattle.lat_top.specs.AskedStyle.{asked_style}
 use Rattle.lat_top.specs.Outside.{Outside}
 use Rattle.lat_top.specs.Writing.{RoseSince, WriteFails}
-use Rattle.lat_top.specs.PlanEnds.{PlanEnds, Refused, Unread, Longer, definition_limit}
+use Rattle.lat_top.specs.PlanEnds.{PlanEnds, Refused, definition_limit}
 use Rattle.lat_top.specs.Complete.{HasFile, CanPlan, IsPlanned}
 
 rose_before : (before after : ℕ) → RoseSince before after → Rose before after

@@ -12,7 +12,6 @@ use Rattle.election_json.specs.Definition.{DefinitionValue, IsDefinition, no_sty
 use Rattle.lat_top.specs.Words.{Plan}
 use Rattle.lat_top.specs.Outside.{Outside, Untouched, HasRead}
 use Rattle.lat_top.specs.Writing.{files_after, name_at, Wrote, PutFailed, GaveFront, PutSome, WriteFails, WriteStops}
-use Rattle.lat_top.specs.declared.asked_style.AskedStyle.{AskedStyle}
 use Rattle.lat_top.specs.AskedStyle.{asked_style, Finds}
 use Rattle.lat_top.specs.PlanAnswer.{Texts, IsAnswer}
 use Rattle.lat_top.specs.PlanEnds.{PlanEnds, status_of, definition_limit}

@@ -1,5 +1,5 @@
 -- When a plan is answered.
-use Rattle.std.specs.Prelude.{◌≡◌, ◌⊎◌, ◌≤◌, ℕ, List, length, Option, Some, None, Result, Ok}
+use Rattle.std.specs.Prelude.{◌≡◌, ◌⊎◌, ◌≤◌, ℕ, List, length, Option, Some, None, Ok}
 use Rattle.std.specs.FinMap.{get}
 use Rattle.lat_shelf.specs.Shelf.{Files, Rose}
 use Rattle.lat_top.specs.declared.status.Status.{Status}

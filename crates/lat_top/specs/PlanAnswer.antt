@@ -1,5 +1,5 @@
 -- What a plan answers: a good deck of least size, or that there is none within the size cap.
-use Rattle.std.specs.Prelude.{◌≡◌, ◌+◌, ◌≤◌, ◌++◌, ℕ, Bool, List, [], ◌∷◌, length, codes, string_bytes, Result, Ok}
+use Rattle.std.specs.Prelude.{◌≡◌, ◌+◌, ◌≤◌, ◌++◌, ℕ, Bool, List, [], ◌∷◌, length, codes, string_bytes, Ok}
 use Rattle.lat_base.specs.Shape.{target_count}
 use Rattle.lat_base.specs.Goodness.{IsGood, NoGoodBelow}
 use Rattle.deck_text.specs.DeckText.{deck_text}

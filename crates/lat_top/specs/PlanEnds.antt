@@ -1,5 +1,5 @@
 -- What a call of `plan` leaves, by its status.
-use Rattle.std.specs.Prelude.{◌≡◌, ◌⊎◌, ◌+◌, ℕ, List, Result, Err}
+use Rattle.std.specs.Prelude.{◌≡◌, ◌⊎◌, ◌+◌, ℕ, List, Err}
 use Rattle.lat_shelf.specs.Shelf.{Rose, IsMissing}
 use Rattle.lat_shelf.specs.Read.{IsLonger}
 use Rattle.lat_top.specs.declared.status.Status.{Status}

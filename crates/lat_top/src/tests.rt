@@ -2,6 +2,7 @@ use super::*;
 use election_json::{DefFault, Place};
 use lat_shelf::{Kind, MemoryShelf, MemorySink};
 use std::alloc::{AllocError, Global};
+use std::process::Abort;
 use std::test::Fail;
 
 const RULES_0: &str =
@@ -31,12 +32,16 @@ const BAD_ID: &str =
 const TURNED: &str =
     "{\"id\":\"a\",\"limit\":1,\"targets\":[\"x\"]},{\"id\":\"b\",\"limit\":1,\"targets\":[\"y\",\"z\"]}],\"styles\":[{\"id\":\"r\",\"contests\":[\"a\"]},{\"id\":\"s\",\"contests\":[\"b\",\"a\"]}]}";
 
-fn words_of(alloc: Global, words: &[&str]) -> Result<Vec<String>, AllocError> {
-    let mut all = Vec::new(alloc);
-    for word in words {
-        all.push(String::from_str(alloc, word)?)?;
-    }
-    Ok(all)
+// The words `plan d.json STYLE out MAX 1000`.
+fn plan_words(alloc: Global, style: &str, max: &str) -> Result<Vec<String>, AllocError> {
+    let mut words = Vec::new(alloc);
+    words.push(String::from_str(alloc, "plan")?)?;
+    words.push(String::from_str(alloc, "d.json")?)?;
+    words.push(String::from_str(alloc, style)?)?;
+    words.push(String::from_str(alloc, "out")?)?;
+    words.push(String::from_str(alloc, max)?)?;
+    words.push(String::from_str(alloc, "1000")?)?;
+    Ok(words)
 }
 
 // A shelf with the definition in d.json.
@@ -48,98 +53,101 @@ fn shelf_with(alloc: Global, rules: &str, rest: &str) -> Result<MemoryShelf, All
     Ok(shelf)
 }
 
-// What `plan d.json s out MAX 1000` answers, the summary, and the file of totals where its bytes
-// are the same for each least deck.
+// What `plan d.json s out MAX 1000` answers: the status, the summary, and the file of totals where
+// its bytes are the same for each least deck.
+fn assert_plan<R: Abort + AllocGlobal>(
+    rt: &R,
+    definition: (&str, &str),
+    max: &str,
+    status: Status,
+    summary: &str,
+    totals: Option<&str>,
+) -> Result<(), Fail> {
+    let alloc = rt.alloc();
+    let mut shelf = shelf_with(alloc, definition.0, definition.1)?;
+    let mut out = MemorySink::new(alloc);
+    let words = plan_words(alloc, "s", max)?;
+    assert_eq!(rt;
+        run(alloc, &words, &mut shelf, &mut out),
+        status,
+        "{max} {summary}"
+    );
+    assert_eq!(rt; out.bytes(), summary.as_bytes());
+    assert_eq!(rt;
+        shelf.file("out.deck.csv").is_some(),
+        status == Status::Done
+    );
+    if let Some(totals) = totals {
+        assert_eq!(rt; shelf.file("out.totals.csv"), Some(totals.as_bytes()));
+    }
+    Ok(())
+}
+
 #[test]
 fn plans_small_styles(rt: HostRuntime) -> Result<(), Fail> {
-    let alloc = rt.alloc();
+    let done = Status::Done;
+    let none = Status::NoDeck;
+    assert_plan(
+        &rt,
+        (RULES_0, S),
+        "5",
+        done,
+        "style s\ntargets 3\nleast 2\n",
+        None,
+    )?;
+    assert_plan(
+        &rt,
+        (RULES_0, ONE),
+        "1",
+        done,
+        "style s\ntargets 1\nleast 0\n",
+        Some("contest,target,total\nt,x,0\n"),
+    )?;
+    assert_plan(
+        &rt,
+        (RULES_1, ONE),
+        "9",
+        done,
+        "style s\ntargets 1\nleast 2\n",
+        Some("contest,target,total\nt,x,1\n"),
+    )?;
+    assert_plan(
+        &rt,
+        (LEAST_1, TWO_CONTESTS),
+        "8",
+        done,
+        "style s\ntargets 2\nleast 2\n",
+        None,
+    )?;
+    assert_plan(
+        &rt,
+        (RULES_1, TWO_TARGETS),
+        "4",
+        none,
+        "style s\ntargets 2\nnone within 4\n",
+        None,
+    )?;
+    assert_plan(
+        &rt,
+        (RULES_1, TWO_TARGETS),
+        "8",
+        done,
+        "style s\ntargets 2\nleast 5\n",
+        None,
+    )?;
+    assert_plan(&rt, (RULES_0, S), "6", Status::TooWide(18), "", None)?;
+    assert_plan(
+        &rt,
+        (RULES_0, TURNED),
+        "5",
+        done,
+        "style s\ntargets 3\nleast 2\n",
+        None,
+    )?;
     let bad_id = Status::Definition(DefFault::BadId(Place::ContestId(0)));
-    let table = [
-        (
-            RULES_0,
-            S,
-            "5",
-            Status::Done,
-            "style s\ntargets 3\nleast 2\n",
-            "",
-        ),
-        (
-            RULES_0,
-            ONE,
-            "1",
-            Status::Done,
-            "style s\ntargets 1\nleast 0\n",
-            "contest,target,total\nt,x,0\n",
-        ),
-        (
-            RULES_1,
-            ONE,
-            "9",
-            Status::Done,
-            "style s\ntargets 1\nleast 2\n",
-            "contest,target,total\nt,x,1\n",
-        ),
-        (
-            LEAST_1,
-            TWO_CONTESTS,
-            "8",
-            Status::Done,
-            "style s\ntargets 2\nleast 2\n",
-            "",
-        ),
-        (
-            RULES_1,
-            TWO_TARGETS,
-            "4",
-            Status::NoDeck,
-            "style s\ntargets 2\nnone within 4\n",
-            "",
-        ),
-        (
-            RULES_1,
-            TWO_TARGETS,
-            "8",
-            Status::Done,
-            "style s\ntargets 2\nleast 5\n",
-            "",
-        ),
-        (RULES_0, S, "6", Status::TooWide(18), "", ""),
-        (
-            RULES_0,
-            TURNED,
-            "5",
-            Status::Done,
-            "style s\ntargets 3\nleast 2\n",
-            "",
-        ),
-        (RULES_0, BAD_ID, "5", bad_id, "", ""),
-        (
-            "{\"contests\":[",
-            S,
-            "5",
-            Status::Definition(DefFault::Missing(Place::Rules)),
-            "",
-            "",
-        ),
-    ];
-    for (rules, rest, max, status, summary, totals) in table {
-        let mut shelf = shelf_with(alloc, rules, rest)?;
-        let mut out = MemorySink::new(alloc);
-        let words = words_of(alloc, &["plan", "d.json", "s", "out", max, "1000"])?;
-        assert_eq!(rt;
-            run(alloc, &words, &mut shelf, &mut out),
-            status,
-            "{rest} {max}"
-        );
-        assert_eq!(rt; out.bytes(), summary.as_bytes(), "{rest} {max}");
-        assert_eq!(rt;
-            shelf.file("out.deck.csv").is_some(),
-            status == Status::Done
-        );
-        if !totals.is_empty() {
-            assert_eq!(rt; shelf.file("out.totals.csv"), Some(totals.as_bytes()));
-        }
-    }
+    assert_plan(&rt, (RULES_0, BAD_ID), "5", bad_id, "", None)?;
+    let missing = Status::Definition(DefFault::Missing(Place::Rules));
+    assert_plan(&rt, ("{\"contests\":[", S), "5", missing, "", None)?;
     Ok(())
 }
 
@@ -147,7 +155,7 @@ fn plans_small_styles(rt: HostRuntime) -> Result<(), Fail> {
 #[test]
 fn ends_where_the_outside_fails(rt: HostRuntime) -> Result<(), Fail> {
     let alloc = rt.alloc();
-    let words = words_of(alloc, &["plan", "d.json", "s", "out", "5", "1000"])?;
+    let words = plan_words(alloc, "s", "5")?;
     let mut shelf = MemoryShelf::new(alloc);
     let mut out = MemorySink::new(alloc);
     assert_eq!(rt; run(alloc, &words, &mut shelf, &mut out), Status::ReadFault);
@@ -156,7 +164,7 @@ fn ends_where_the_outside_fails(rt: HostRuntime) -> Result<(), Fail> {
         run(alloc, &words, &mut shelf, &mut out),
         Status::TooLong(8_388_609)
     );
-    let west = words_of(alloc, &["plan", "d.json", "west", "out", "5", "1000"])?;
+    let west = plan_words(alloc, "west", "5")?;
     let mut shelf = shelf_with(alloc, RULES_0, S)?;
     assert_eq!(rt; run(alloc, &west, &mut shelf, &mut out), Status::NoStyle);
     shelf.fail(Kind::Put, 1)?;
