@@ -6,3 +6,6 @@ mod misassignment;
 
 pub use fault::MisFault;
 pub use misassignment::Misassignment;
+
+#[cfg(test)]
+mod tests;

@@ -7,3 +7,6 @@ mod obeyed;
 
 pub use broken::Broken;
 pub use obeyed::obeys;
+
+#[cfg(test)]
+mod tests;

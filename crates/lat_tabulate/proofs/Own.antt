@@ -43,7 +43,7 @@ votes_read contests deck u fits =
     count_alike (λ b. votes_for contests (reading b (identity (target_count contests))) u) (λ b. votes_for contests b u) (target_count contests) deck
     (λ b long. ap (λ (r : List Bool). votes_for contests r u) (reading_identity (target_count contests) b long)) fits
 
-range_more : (a n : ℕ) → range_with_len a (suc n) ≡ range_with_len a n ++ (a + n) ∷ []
+pub range_more : (a n : ℕ) → range_with_len a (suc n) ≡ range_with_len a n ++ (a + n) ∷ []
 range_more a zero = ap (λ (m : ℕ). m ∷ []) (omega arith)
 range_more a (suc n) = ap (λ (xs : List ℕ). a ∷ xs) (range_more (a + 1) n ∙ ap (λ (m : ℕ). range_with_len (a + 1) n ++ m ∷ []) (omega arith))
 

@@ -1,10 +1,15 @@
 //! Tabulation: the totals of a deck, as its marks stand and as they are read under a misassignment.
 #![tactic(auto)]
 
+mod losses;
 mod read;
 mod reports;
 mod totals;
 
+pub use losses::lost;
 pub use read::total_read;
 pub use reports::report;
 pub use totals::{mark_count, total, total_under};
+
+#[cfg(test)]
+mod tests;
