@@ -2,10 +2,30 @@ use super::*;
 use lat_ballots::Deck;
 use lat_base::{Contest, Shape};
 use lat_misassign::Misassignment;
+use std::alloc::{AllocError, Global};
 use std::test::Fail;
 
-// Two contests of two targets and one vote; a ballot that marks the first target of the first and
-// the second of the second. Under the exchange of the second targets the first is overvoted.
+// A deck of one ballot with these marks.
+fn ballot_of(alloc: Global, shape: &Shape, marks: &[u16]) -> Result<Deck, AllocError> {
+    let mut deck = Deck::blank(alloc, shape, 1)?;
+    for t in marks {
+        if deck.ballots() == 1 && *t < deck.targets() {
+            deck.set(0, *t, true);
+        }
+    }
+    Ok(deck)
+}
+
+// The marks that give no vote, where the deck is over the style's targets.
+fn lost_of(shape: &Shape, deck: &Deck) -> Option<u32> {
+    if deck.targets() != shape.targets() {
+        return None;
+    }
+    Some(lost(shape, deck))
+}
+
+// Two contests of two targets and one vote. A ballot marks the first target of the first and the
+// second of the second; under the exchange of the second targets it overvotes the first contest.
 #[test]
 fn counts_votes_as_read(rt: HostRuntime) -> Result<(), Fail> {
     let alloc = rt.alloc();
@@ -14,12 +34,12 @@ fn counts_votes_as_read(rt: HostRuntime) -> Result<(), Fail> {
         targets: 2,
     };
     let shape = Shape::new(alloc, &[contest; 2])?;
-    let mut deck = Deck::blank(alloc, &shape, 1)?;
-    if deck.ballots() == 1 && deck.targets() == 4 && shape.targets() == 4 {
-        deck.set(0, 0, true);
-        deck.set(0, 3, true);
-        let identity = Misassignment::identity(alloc, 4)?;
-        let swap = Misassignment::swap(alloc, 4, 1, 3)?;
+    let deck = ballot_of(alloc, &shape, &[0, 3])?;
+    let full = ballot_of(alloc, &shape, &[0, 1, 2, 3])?;
+    let identity = Misassignment::identity(alloc, 4)?;
+    let swap = Misassignment::swap(alloc, 4, 1, 3)?;
+    let fits = deck.targets() == shape.targets();
+    if fits && shape.targets() == 4 && identity.len() == 4 && swap.len() == 4 {
         assert_eq!(rt;
             report(alloc, &shape, &deck, &identity)?.as_slice(),
             [1u32, 0, 0, 1].as_slice()
@@ -35,11 +55,10 @@ fn counts_votes_as_read(rt: HostRuntime) -> Result<(), Fail> {
             ),
             (1, 0)
         );
-        assert_eq!(rt; total_read(&shape, &deck, &[0, 0, 2, 2], 1), 0);
-        assert_eq!(rt; lost(&shape, &deck), 0);
-        deck.set(0, 1, true);
-        deck.set(0, 2, true);
-        assert_eq!(rt; lost(&shape, &deck), 4);
     }
+    assert_eq!(rt;
+        (lost_of(&shape, &deck), lost_of(&shape, &full)),
+        (Some(0), Some(4))
+    );
     Ok(())
 }
