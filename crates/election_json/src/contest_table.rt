@@ -1,4 +1,4 @@
-ghost use Rattle.std.specs.Prelude.{◌≡◌, ◌<◌, ◌≤◌, length, find, IfSome};
+ghost use Rattle.std.specs.Prelude.{◌≡◌, ◌<◌, length, find, IfSome};
 ghost use Rattle.std.specs.Option.{option_map};
 ghost use Rattle.std.specs.Str.{bytes_eq};
 ghost use Rattle.election_json.specs.Kept.{entry_at};

@@ -1,4 +1,4 @@
-ghost use Rattle.std.specs.Prelude.{◌≡◌, ◌≢◌, ◌<◌, ◌≤◌, ◌↔◌, length, position, IfOk, IfSome, IsNone, All};
+ghost use Rattle.std.specs.Prelude.{◌≡◌, ◌≢◌, ◌<◌, ◌↔◌, length, position, IfOk, IfSome, IsNone, All};
 ghost use Rattle.std.specs.Str.{bytes_eq};
 
 use crate::contest_table::ContestTable;

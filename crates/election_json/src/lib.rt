@@ -23,5 +23,5 @@ pub use fault::{DefFail, DefFault};
 pub use place::Place;
 pub use reading::read_definition;
 
-//#[cfg(test)]
-//mod tests;
+#[cfg(test)]
+mod tests;

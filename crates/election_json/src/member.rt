@@ -3,7 +3,7 @@
 ghost use Rattle.std.specs.Prelude.{◌≡◌, ◌≤◌, ◌++◌, ◌∷◌, [], length, map, IfOk};
 ghost use Rattle.serde_json.specs.View.{view};
 ghost use Rattle.election_json.specs.Fault.{Gives};
-ghost use Rattle.election_json.specs.Member.{member, object, boolean, is_outside, number, values, array, id_text, new_id};
+ghost use Rattle.election_json.specs.Member.{member, object, boolean, number, values, array, id_text, new_id};
 
 use crate::id_set::IdSet;
 use crate::{DefFail, DefFault, Place};

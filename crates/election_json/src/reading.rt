@@ -45,10 +45,18 @@ fn read(alloc: Global, bytes: &[u8]) -> Result<Definition, DefFail>
     }
 }
 
-/// The definition that the bytes mean, or the first fault in them: JSON (RFC 8259) as `serde_json`
-/// reads it, then the rules, the contests and the styles, each in the order of their members.
+/// The definition that the bytes mean, or the first fault in them.
 ///
-/// The bytes are a JSON text in UTF-8. `Memory` may come at any place where memory is taken.
+/// The bytes are a JSON text in UTF-8 (RFC 8259, as `serde_json` reads it), an object with these
+/// members; others are passed over.
+///
+/// - `rules`: `distinct` (true or false), `least` (0 to 64), `blank` and `over` (0 to 16).
+/// - `contests`: 1 to 4,096 objects with `id`, `limit` (1 to 64) and `targets` (1 to 64 ids).
+/// - `styles`: 1 to 4,096 objects with `id` and `contests` (the ids of 1 to 128 contests, which have
+///   at most 256 targets together).
+///
+/// They are checked in this order, each contest and each style whole before the next. `Memory` comes
+/// where memory runs out.
 pub fn read_definition(alloc: Global, bytes: &[u8]) -> Result<Definition, DefFail>
     ensures ok { IfOk result (λ d. definition_of bytes.now ≡ Ok d) }
     ensures fault { (f : DefFault) → result ≡ Err (DefFail.Fault f) → definition_of bytes.now ≡ Err f }

@@ -1,4 +1,4 @@
-ghost use Rattle.std.specs.Prelude.{◌≡◌, IfOk};
+ghost use Rattle.std.specs.Prelude.{IfOk};
 ghost use Rattle.serde_json.specs.View.{view};
 ghost use Rattle.lat_base.specs.Rules.{IsRuleSet};
 ghost use Rattle.election_json.specs.Fault.{Gives};

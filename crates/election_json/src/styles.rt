@@ -24,7 +24,8 @@ fn chosen_contest(
     value: &Value,
     place: Place,
 ) -> Result<u32, DefFail>
-    ensures gives { Gives (entry_at contests.now) result (chosen_contest contests.now earlier.old place (view value.now)) }
+    ensures gives { Gives (entry_at contests.now) result
+        (chosen_contest contests.now earlier.old place (view value.now)) }
     ensures added { IfOk result (λ c. earlier.new ≡ earlier.old ++ (entry_at contests.now c).id ∷ []) }
     ensures within { IfOk result (λ c. c < length contests.now) }
 {
@@ -49,7 +50,8 @@ fn chosen_contests(
     values: &[Value],
 ) -> Result<Vec<u32>, DefFail>
     requires { length values.now ≤ 128 }
-    ensures gives { Gives (λ cs. map (entry_at contests.now) cs.items) result (each (next_chosen contests.now i) (map view values.now)) }
+    ensures gives { Gives (λ cs. map (entry_at contests.now) cs.items) result
+        (each (next_chosen contests.now i) (map view values.now)) }
     ensures within { IfOk result (λ cs. AreWithin contests.now cs.items) }
     ensures count { IfOk result (λ cs. length cs.items ≤ 128) }
 {
@@ -118,7 +120,8 @@ fn style_entries(
     values: &[Value],
 ) -> Result<Vec<StyleEntry>, DefFail>
     requires { length values.now ≤ 4096 }
-    ensures gives { Gives (λ ss. kept_styles contests.now ss.items) result (each (next_style contests.now) (map view values.now)) }
+    ensures gives { Gives (λ ss. kept_styles contests.now ss.items) result
+        (each (next_style contests.now) (map view values.now)) }
     ensures within { IfOk result (λ ss. All (IsWithin contests.now) ss.items) }
 {
     let mut styles = Vec::new(alloc);
