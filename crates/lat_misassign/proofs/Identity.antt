@@ -29,7 +29,7 @@ there_by a n t le rest false h =
     let ge : a + 1 ≤ t = grind (arith, nat_tests) in
     omega (arith, e, here, rest ge)
 
-once_there : (a n t : ℕ) → a ≤ t → t < a + n → count_by (λ x. x == t) (range_with_len a n) ≡ 1
+pub once_there : (a n t : ℕ) → a ≤ t → t < a + n → count_by (λ x. x == t) (range_with_len a n) ≡ 1
 once_there a zero t le lt = absurd (omega arith)
 once_there a (suc n) t le lt = there_by a n t le (λ ge. once_there (a + 1) n t ge (omega arith)) (a == t) refl
 

@@ -2,3 +2,4 @@ pub mod Identity
 pub mod Counts
 pub mod Valid
 pub mod Swaps
+pub mod Exchanges

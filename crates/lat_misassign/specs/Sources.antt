@@ -26,5 +26,6 @@ exchanged contests c d u =
     else if is_in contests d u then counterpart contests d c u
     else u
 
+-- the exchange of the contests c and d, target by target
 abbrev pub contests_exchanged : List Contest → ℕ → ℕ → List ℕ
 contests_exchanged contests c d = map (exchanged contests c d) (range_with_len 0 (target_count contests))

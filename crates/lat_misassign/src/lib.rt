@@ -1,6 +1,7 @@
 //! Misassignments: the ways in which a machine's voting targets may be swapped, one for one.
 #![tactic(auto)]
 
+mod exchange;
 mod fault;
 mod misassignment;
 

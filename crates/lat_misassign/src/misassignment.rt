@@ -1,11 +1,12 @@
 ghost use Rattle.std.specs.Prelude.{◌≡◌, ◌≢◌, ◌<◌, ◌≤◌, ◌↔◌, None, Some, Err, length, swap, IsTrue, IfOk, OnOk};
 ghost use Rattle.std.specs.List.{list_any};
-ghost use Rattle.lat_base.specs.Shape.{contest_at};
+ghost use Rattle.lat_base.specs.Shape.{contest_at, target_count};
 ghost use Rattle.lat_base.specs.Misassignment.{IsMisassignment, identity, source};
 ghost use Rattle.lat_misassign.specs.Sources.{AreSources, contests_exchanged};
 ghost use Rattle.lat_misassign.specs.SourceFault.{source_fault};
 
 use crate::MisFault;
+use crate::exchange::exchanged;
 use lat_base::Shape;
 use std::alloc::{AllocError, Global};
 use std::marker::Model;
@@ -90,6 +91,27 @@ impl Misassignment {
         let mut s = Misassignment::identity(alloc, n)?;
         s.sources.swap(usize::from(t), usize::from(u));
         Ok(s)
+    }
+
+    /// The exchange of the contests `c` and `d` of a style, which have as many targets: each target
+    /// of the one with the target at the same place of the other.
+    #[tactic(auto, using(crate::proofs::Exchanges::exchanged_sources, crate::proofs::Exchanges::exchanged_more))]
+    pub fn swap_contests(
+        alloc: Global,
+        shape: &Shape,
+        c: u16,
+        d: u16,
+    ) -> Result<Misassignment, AllocError>
+        requires first { c < length shape.now }
+        requires second { d < length shape.now }
+        requires alike { (contest_at shape.now c).targets ≡ (contest_at shape.now d).targets }
+        ensures { IfOk result (λ s. s ≡ contests_exchanged shape.now c d) }
+    {
+        let mut sources = Vec::with_capacity(alloc, usize::from(shape.targets()))?;
+        for u in 0..shape.targets() {
+            sources.push(exchanged(shape, c, d, u))?;
+        }
+        Ok(Misassignment { sources })
     }
 
     /// An equal misassignment.

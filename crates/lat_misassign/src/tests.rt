@@ -1,4 +1,5 @@
 use super::*;
+use lat_base::{Contest, Shape};
 use std::test::Fail;
 
 #[test]
@@ -27,6 +28,25 @@ fn exchanges(rt: HostRuntime) -> Result<(), Fail> {
     assert!(rt; Misassignment::identity(alloc, 4)?.is_identity());
     if swap.len() == 4 {
         assert_eq!(rt; swap.source(3), 1);
+    }
+    Ok(())
+}
+
+#[test]
+fn exchanges_contests(rt: HostRuntime) -> Result<(), Fail> {
+    let alloc = rt.alloc();
+    let two = Contest {
+        limit: 1,
+        targets: 2,
+    };
+    let one = Contest {
+        limit: 1,
+        targets: 1,
+    };
+    let shape = Shape::new(alloc, &[two, one, two])?;
+    if shape.contests() == 3 && shape.contest(0).targets == shape.contest(2).targets {
+        let swap = Misassignment::swap_contests(alloc, &shape, 2, 0)?;
+        assert_eq!(rt; swap.as_slice(), [3u16, 4, 2, 0, 1].as_slice());
     }
     Ok(())
 }
