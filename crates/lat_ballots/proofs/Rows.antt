@@ -29,7 +29,7 @@ set_deck deck targets rows place j t on row changed e at h k is new =
     ∙ ap (λ (r : List Bool). set r t on) (sym (get_or-map (take targets) rows place row [] within))))
     ∙ (λ i. with_mark (e i) (at i) t on)
 
-map-replicate : (f : List Bool → List Bool) (n : ℕ) (row : List Bool) → map f (replicate n row) ≡ replicate n (f row)
+pub map-replicate : (f : List Bool → List Bool) (n : ℕ) (row : List Bool) → map f (replicate n row) ≡ replicate n (f row)
 map-replicate f zero row = refl
 map-replicate f (suc n) row = ap (λ (rows : List (List Bool)). f row ∷ rows) (map-replicate f n row)
 

@@ -2,9 +2,11 @@
 #![tactic(auto)]
 
 mod deck;
+mod plain;
 mod row;
 
 pub use deck::Deck;
+pub use plain::plain_size;
 
 #[cfg(test)]
 mod tests;

@@ -1,5 +1,5 @@
 use super::*;
-use lat_base::{Contest, Shape};
+use lat_base::{Contest, Rules, Shape};
 use std::test::Fail;
 
 // Marks at both ends of the words in which a ballot of 256 targets is kept, and what a copy keeps.
@@ -21,6 +21,37 @@ fn one_mark_is_set(rt: HostRuntime) -> Result<(), Fail> {
                 if copy.ballots() == 2 && deck.ballots() == 2 {
                     assert_eq!(rt; copy.is_marked(1, u), t == u, "{t} {u}");
                     assert!(rt; !copy.is_marked(0, u) && !deck.is_marked(1, u), "{t} {u}");
+                }
+            }
+        }
+    }
+    Ok(())
+}
+
+// Two contests of two targets, one wholly marked and one blank ballot: 1, 2, 3 and 4 ballots for
+// the targets, one target each.
+#[test]
+fn the_plain_deck(rt: HostRuntime) -> Result<(), Fail> {
+    let alloc = rt.alloc();
+    let contest = Contest {
+        limit: 1,
+        targets: 2,
+    };
+    let shape = Shape::new(alloc, &[contest; 2])?;
+    let rules = Rules::new(true, 1, 1, 1)?;
+    assert_eq!(rt; plain_size(&shape, &rules), 12);
+    if plain_size(&shape, &rules) <= 1024 {
+        let deck = Deck::plain(alloc, &shape, &rules)?;
+        assert_eq!(rt; deck.ballots(), 12);
+        let marked = [0b1111, 1, 2, 2, 4, 4, 4, 8, 8, 8, 8, 0];
+        for (j, marks) in marked.into_iter().enumerate() {
+            for t in 0..4 {
+                if j < usize::from(deck.ballots()) && t < deck.targets() {
+                    assert_eq!(rt;
+                        deck.is_marked(j as u16, t),
+                        (marks >> t) & 1 == 1,
+                        "{j} {t}"
+                    );
                 }
             }
         }
