@@ -1,4 +1,5 @@
-pub mod Bits
+pub mod OneBit
 pub mod Runs
+pub mod Slices
 pub mod Rows
 pub mod PlainDeck

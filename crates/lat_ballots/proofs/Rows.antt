@@ -2,7 +2,7 @@
 use Rattle.std.proofs.Common.{◌≡◌, ◌<◌, ◌≤◌, ℕ, zero, suc, Bool, false, List, [], ◌∷◌, length, get_or, map, take, set, replicate, ap, sym, subst, ◌∙◌, refl, arith}
 use Rattle.std.proofs.lemmas.List.{get_or-map, map-set, length-map, length-take-le, take-replicate}
 use Rattle.std.proofs.Math.Seq.{take-set-lt}
-use Rattle.lat_ballots.specs.Deck.{Ballots, IsDeck, AreRows, ballots_of, with_mark, blank_ballots}
+use Rattle.lat_ballots.specs.Deck.{Ballots, IsDeck, AreRows, ballots_of, ballot_at, with_mark, blank_ballots}
 
 -- what a deck's rows keep is a deck
 pub is_deck : (targets : ℕ) (rows : List (List Bool)) → AreRows targets rows → IsDeck (ballots_of targets rows)
@@ -42,3 +42,11 @@ blank_deck targets n k count rows e few is all =
     (map-replicate (take targets) count (replicate 256 false)
     ∙ ap (λ (b : List Bool). replicate count b) (take-replicate targets 256 false (omega arith)))
     ∙ (λ i. blank_ballots (e i) (all i))
+
+-- the row at a place is the ballot of that number, up to the targets
+pub ballot_of_row : (deck : Ballots) (targets : ℕ) (rows : List (List Bool)) (place j : ℕ) (row : List Bool)
+    → ballots_of targets rows ≡ deck → place ≡ j → j < length deck.ballots → row ≡ get_or rows place row → take targets row ≡ ballot_at deck j
+ballot_of_row deck targets rows place j row e at h is =
+    let within : place < length rows =
+    subst (λ (n : ℕ). place < n) (length-map rows (take targets)) (subst (λ (d : Ballots). place < length d.ballots) (sym e) (subst (λ (p : ℕ). p < length deck.ballots) (sym at) h)) in
+    ap (take targets) is ∙ sym (get_or-map (take targets) rows place row [] within) ∙ (λ i. ballot_at (e i) (at i))

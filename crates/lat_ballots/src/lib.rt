@@ -4,6 +4,7 @@
 mod deck;
 mod plain;
 mod row;
+mod words;
 
 pub use deck::Deck;
 pub use plain::plain_size;

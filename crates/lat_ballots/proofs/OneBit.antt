@@ -11,7 +11,7 @@ use Rattle.lat_ballots.specs.Row.{is_set, bits_of}
 pub length-bits_of : (words : List ℕ) → length (bits_of words) ≡ 256
 length-bits_of words = length-map-range_with_len (is_set words) 0 256
 
-get_or-bits_of : (words : List ℕ) (t : ℕ) → t < 256 → get_or (bits_of words) t false ≡ is_set words t
+pub get_or-bits_of : (words : List ℕ) (t : ℕ) → t < 256 → get_or (bits_of words) t false ≡ is_set words t
 get_or-bits_of words t h = get_or-map-range_with_len (is_set words) 0 256 t t false h (omega arith)
 
 -- the test `(word >> place) & 1` reads a bit

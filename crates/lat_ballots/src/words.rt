@@ -1,0 +1,29 @@
+ghost use Rattle.std.specs.Prelude.{◌≡◌, ◌<◌, ◌≤◌, ◌+◌, ◌-◌, ◌*◌, ◌^◌, get_or, slice_range};
+ghost use Rattle.std.specs.Simd.Lanes.{mask_l};
+ghost use Rattle.lat_ballots.specs.Row.{bits_of};
+
+// The word of that number and the next, of higher worth, as one number. No word follows the last.
+fn join_words(words: &[u64; 4], word: u16) -> u128
+    requires { word < 4 }
+    ensures both { result ≡ get_or words.now (word + 1) 0 * 2 ^ 64 + get_or words.now word 0 }
+    ensures low { get_or words.now word 0 < 2 ^ 64 }
+{
+    let high = if word < 3 {
+        words[usize::from(word) + 1]
+    } else {
+        0
+    };
+    (u128::from(high) << 64) + u128::from(words[usize::from(word)])
+}
+
+// The bits from `first` to before `last`, at most 64, as one number: the first has worth 1.
+pub(crate) fn bits_between(words: &[u64; 4], first: u16, last: u16) -> u64
+    requires some { first < last }
+    requires few { last - first ≤ 64 }
+    requires within { last ≤ 256 }
+    ensures { result ≡ mask_l (slice_range (bits_of words.now) first last) }
+{
+    let from_first = join_words(words, first / 64) >> (first % 64);
+    let mask = (1u128 << (last - first)) - 1;
+    (from_first & mask) as u64
+}
