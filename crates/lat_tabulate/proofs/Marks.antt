@@ -2,9 +2,9 @@
 use Rattle.std.proofs.Common.{◌≡◌, ◌≤◌, ◌<◌, ◌+◌, ◌-◌, ℕ, Bool, false, List, length, take, drop, get_or, cond, count_by, ap, ◌∙◌, subst, arith, length-drop}
 use Rattle.std.specs.Prelude.{slice_range}
 use Rattle.std.proofs.lemmas.List.{get_or-drop, get_or-map, length-map}
-use Rattle.std.proofs.lemmas.List.Sums.{sum_by_more}
+use Rattle.std.proofs.lemmas.List.Sums.{sum_by_more, sum_by-take-le}
 use Rattle.lat_base.specs.declared.contest.Contest.{Contest}
-use Rattle.lat_base.specs.Shape.{first_target, target_count, no_contest}
+use Rattle.lat_base.specs.Shape.{IsShape, first_target, target_count, no_contest}
 use Rattle.lat_base.specs.Misassignment.{IsMisassignment}
 use Rattle.lat_misassign.specs.Sources.{AreSources}
 use Rattle.lat_misassign.proofs.Counts.{within_of}
@@ -29,6 +29,14 @@ marks_more ballot s a t le lt =
 
 pub first_le_next : (contests : List Contest) (c : ℕ) → c < length contests → first_target contests c ≤ first_target contests (c + 1)
 first_le_next contests c lt = omega (arith, sum_by_more (λ (x : Contest). x.targets) contests c no_contest lt)
+
+-- a contest has 1 to 64 targets, and they are the style's
+pub contest_places : (contests : List Contest) (c : ℕ) → IsShape contests → c < length contests
+    → ((first_target contests c < first_target contests (c + 1)) × (first_target contests (c + 1) - first_target contests c ≤ 64)) × (first_target contests (c + 1) ≤ target_count contests)
+contest_places contests c is lt =
+    let next = sum_by_more (λ (x : Contest). x.targets) contests c no_contest lt in
+    let size = is.counts c no_contest lt in
+    ((omega (arith, next, size.0), omega (arith, next, size.1)), sum_by-take-le (λ (x : Contest). x.targets) contests (c + 1))
 
 -- the sources of a misassignment of the style's targets are targets
 pub are_read : (contests : List Contest) (s : List ℕ) → AreSources s → length s ≡ target_count contests → AreRead contests s

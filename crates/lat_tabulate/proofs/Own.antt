@@ -1,7 +1,7 @@
 -- Totals where each target counts for itself, and reports number by number.
-use Rattle.std.proofs.Common.{◌≡◌, ◌<◌, ◌≤◌, ◌+◌, ◌++◌, ℕ, zero, suc, Bool, false, List, [], ◌∷◌, length, map, cond, count_by, refl, ap, sym, ◌∙◌, subst, arith}
+use Rattle.std.proofs.Common.{◌≡◌, ◌<◌, ◌+◌, ◌++◌, ℕ, zero, suc, Bool, false, List, [], ◌∷◌, length, map, cond, count_by, count_ones, refl, ap, sym, ◌∙◌, subst, arith}
 use Rattle.std.specs.List.{range_with_len}
-use Rattle.std.proofs.lemmas.List.{ext_get_or, map-append}
+use Rattle.std.proofs.lemmas.List.{ext_get_or, map-append, map-id}
 use Rattle.std.proofs.lemmas.List.FromFn.{get_or-map-range_with_len, length-map-range_with_len}
 use Rattle.std.proofs.lemmas.List.Sums.{sum_by-cons}
 use Rattle.std.proofs.lemmas.List.Elements.{All-head, All-tail}
@@ -10,9 +10,9 @@ use Rattle.lat_base.specs.Shape.{target_count}
 use Rattle.lat_base.specs.Misassignment.{identity}
 use Rattle.lat_base.specs.Tally.{is_marked, reading, votes_for, own_total}
 use Rattle.lat_base.specs.Deck.{Fits}
-use Rattle.lat_ballots.specs.Deck.{Ballots, IsDeck, ballot_at, mark_at}
-use Rattle.std.specs.Prelude.{slice_range}
-use Rattle.lat_tabulate.proofs.Marks.{range_more as range_more_of}
+use Rattle.lat_ballots.specs.Deck.{Ballots, IsDeck}
+use Rattle.std.specs.Simd.Lanes.{mask_l}
+use Rattle.std.proofs.lemmas.Simd.{ones-mask_l}
 
 -- reading under the identity changes nothing
 pub reading_identity : (n : ℕ) (ballot : List Bool) → length ballot ≡ n → reading ballot (identity n) ≡ ballot
@@ -60,7 +60,6 @@ pub own_votes : (contests : List Contest) (deck : Ballots) (u : ℕ) → IsDeck 
     → own_total contests deck.ballots u ≡ count_by (λ ballot. votes_for contests ballot u) deck.ballots
 own_votes contests deck u is targets = votes_read contests deck.ballots u (subst (λ (n : ℕ). Fits n deck.ballots) targets is.fits)
 
--- one more target of a ballot adds its mark
-pub mark_more : (deck : Ballots) (j a t : ℕ) → IsDeck deck → j < length deck.ballots → a ≤ t → t < deck.targets
-    → count_by (λ m. m) (slice_range (ballot_at deck j) a (t + 1)) ≡ count_by (λ m. m) (slice_range (ballot_at deck j) a t) + cond (mark_at deck j t) 1 0
-mark_more deck j a t is within le lt = range_more_of (ballot_at deck j) a t le (omega (arith, is.fits j [] within, lt))
+-- the set bits of a ballot's marks, counted, are the marks counted
+pub counted_bits : (marks : List Bool) → count_ones (mask_l marks) ≡ count_by (λ m. m) marks
+counted_bits marks = ap (λ (xs : List Bool). count_ones (mask_l xs)) (sym (map-id marks)) ∙ ones-mask_l (λ (m : Bool). m) marks

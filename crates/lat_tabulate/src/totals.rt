@@ -9,7 +9,7 @@ use lat_base::Shape;
 use lat_misassign::Misassignment;
 
 /// How many targets of contest `c` ballot `j` marks.
-#[tactic(auto, using(crate::proofs::Own::mark_more, crate::proofs::Marks::first_le_next))]
+#[tactic(auto, using(crate::proofs::Own::counted_bits, crate::proofs::Marks::contest_places))]
 pub fn mark_count(shape: &Shape, deck: &Deck, j: u16, c: u16) -> u16
     requires contest { c < length shape.now }
     requires ballot { j < length deck.now.ballots }
@@ -17,16 +17,8 @@ pub fn mark_count(shape: &Shape, deck: &Deck, j: u16, c: u16) -> u16
     ensures { result ≡ mark_count shape.now (ballot_at deck.now j) c }
 {
     let _contests = shape.contests();
-    let _ballots = deck.ballots();
-    let first = shape.first_of(c);
-    let last = shape.first_of(c + 1);
-    let mut count: u16 = 0;
-    for t in first..last {
-        if deck.is_marked(j, t) {
-            count += 1;
-        }
-    }
-    count
+    let marks = deck.marks(j, shape.first_of(c), shape.first_of(c + 1));
+    marks.count_ones() as u16
 }
 
 // Whether ballot j votes for u.
