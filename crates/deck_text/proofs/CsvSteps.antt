@@ -1,8 +1,8 @@
 -- The records that are left after one more is read.
-use Rattle.std.proofs.Common.{◌≡◌, ◌≤◌, ◌<◌, ◌+◌, ◌-◌, ◌++◌, ◌==◌, ◌&&◌, ℕ, zero, suc, Bool, true, false, cond, List, [], ◌∷◌, length, Option, Some, None, refl, ap, sym, ◌∙◌, subst, arith, ◌⊎◌, inl, inr, ◌||◌}
-use Rattle.std.proofs.lemmas.Bool.{cases_Bool, both_ways}
-use Rattle.csv.specs.Machine.{Read, next_record, step, in_field, start_field, start_record, after_end, ends_with, ends_at_end, is_end, is_byte, fields_after, field_after}
-use Rattle.csv.specs.Reading.{default_config, records_from, records_next, NextIs, ReadsNext}
+use Rattle.std.proofs.Common.{◌≡◌, ◌≤◌, ◌<◌, ◌+◌, ◌-◌, ◌++◌, ◌==◌, ◌&&◌, ℕ, zero, suc, Bool, true, false, cond, List, [], ◌∷◌, length, Option, Some, None, refl, ap, sym, ◌∙◌, arith}
+use Rattle.std.proofs.lemmas.Bool.{both_ways}
+use Rattle.csv.specs.Machine.{Read, next_record, step, in_field, start_field, start_record, after_end, ends_with, ends_at_end, is_end, fields_after, field_after}
+use Rattle.csv.specs.Reading.{default_config, records_from, records_next}
 use Rattle.csv.specs.declared.parser.State.{State}
 use Rattle.csv.specs.declared.parser.State.TheVariants as st
 use Rattle.csv.specs.declared.parser.Terminator.TheVariants as term
@@ -106,9 +106,9 @@ turns (suc n) zero s bytes between low high = absurd (omega arith)
 turns (suc n) (suc m) s bytes between low high =
     one_turn (next_record default_config s [] [] bytes) n m
     (λ p e.
-        let l = leaves s [] [] bytes p e in
-        let some = some_left s bytes p between e in
-        turns n m p.1 p.2 l.ended (omega (arith, l.fewer, some, low)) (omega (arith, l.fewer, some, high)))
+    let l = leaves s [] [] bytes p e in
+    let some = some_left s bytes p between e in
+    turns n m p.1 p.2 l.ended (omega (arith, l.fewer, some, low)) (omega (arith, l.fewer, some, high)))
 
 -- a record that is read is the first of those left, and none is begun after it
 pub one_more : (s : State) (bytes : List ℕ) (p : Read) → ends_at_end s ≡ false → next_record default_config s [] [] bytes ≡ Some p
@@ -117,11 +117,12 @@ unfolding records_from
 one_more s bytes p between e =
     let l = leaves s [] [] bytes p e in
     let some = some_left s bytes p between e in
-    let next : length bytes + 1 ≡ suc (length bytes) = omega arith in
-    (ap (λ (n : ℕ). records_from default_config n s bytes) next
-    ∙ ap (records_next (records_from default_config (length bytes))) e
-    ∙ ap (λ (rows : List (List (List ℕ))). p.0 ∷ rows) (turns (length bytes) (length p.2 + 1) p.1 p.2 l.ended (omega (arith, l.fewer, some)) (omega arith)),
-    l.ended)
+    let next : length bytes + 1 ≡ suc (length bytes) = omega arith in (
+      ap (λ (n : ℕ). records_from default_config n s bytes) next
+          ∙ ap (records_next (records_from default_config (length bytes))) e
+          ∙ ap (λ (rows : List (List (List ℕ))). p.0 ∷ rows) (turns (length bytes) (length p.2 + 1) p.1 p.2 l.ended (omega (arith, l.fewer, some)) (omega arith)),
+      l.ended,
+    )
 
 -- where no record is read, none is left
 pub none_left : (s : State) (bytes : List ℕ) → next_record default_config s [] [] bytes ≡ None → left_of s bytes ≡ []

@@ -1,5 +1,5 @@
 -- The ballots in use of a deck.
-use Rattle.std.proofs.Common.{◌≡◌, ◌<◌, ◌≤◌, ◌+◌, ◌-◌, ◌++◌, ℕ, Bool, true, false, List, [], ◌∷◌, length, take, drop, get_or, set, replicate, refl, ap, sym, ◌∙◌, subst, arith, append_assoc}
+use Rattle.std.proofs.Common.{◌≡◌, ◌<◌, ◌≤◌, ◌+◌, ◌-◌, ◌++◌, ℕ, Bool, true, false, List, [], ◌∷◌, length, take, drop, get_or, set, replicate, ap, sym, ◌∙◌, arith, append_assoc}
 use Rattle.std.proofs.lemmas.List.{get_or-take, length-take-le, take_more, drop_more, set_at, append-nil, take_all, drop_all, length-set, set-set, get_or-set_same, get_or-set_other, get_or-replicate, length-replicate}
 use Rattle.std.proofs.Math.Seq.{take-set-lt}
 use Rattle.lat_ballots.specs.Deck.{Ballots, IsDeck, ballot_at, mark_at, with_mark, blank_ballots}

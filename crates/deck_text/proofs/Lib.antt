@@ -8,3 +8,4 @@ pub mod Fields
 pub mod NumberFacts
 pub mod Called
 pub mod DraftFacts
+pub mod RowCounts

@@ -1,5 +1,5 @@
 -- What a read of a record leaves.
-use Rattle.std.proofs.Common.{◌≡◌, ◌≢◌, ℕ, Bool, true, false, List, [], ◌∷◌, Option, Some, None, IsSome, unwrap_or, is_some, length, subst, refl, ap, sym, ◌∙◌}
+use Rattle.std.proofs.Common.{◌≡◌, ◌≢◌, ℕ, true, false, List, [], ◌∷◌, Option, Some, None, IsSome, unwrap_or, is_some, length, subst, refl, ap, sym, ◌∙◌}
 use Rattle.csv.specs.Machine.{Read, next_record, ends_at_end}
 use Rattle.csv.specs.Reading.{Reached, ReadRecord, TookRecord, ReadsNext, NextIs, ExplainsRead, default_config, source_of, strip_bom}
 use Rattle.csv.specs.declared.reader.Reader.{Reader}
@@ -59,8 +59,10 @@ took_next s y (Some z) f t r = next_is _ f t z r
 pub took_one : {R : Type 0} (rem : R → Option (List ℕ)) (a b : Reader R) (fields : List (List ℕ)) → a.config ≡ default_config → IsSome (source_of rem a)
     → ends_at_end a.state ≡ false → TookRecord rem a b fields → (rest : List (List (List ℕ))) × (reader_left rem a ≡ fields ∷ rest)
 took_one rem a b fields config some between r =
-    let (p, e, same) = took_next a.state _ _ fields b.state (rw (config, there _ some) at r) in
-    (left_of p.1 p.2, (one_more a.state _ p between e).0 ∙ ap (λ (f : List (List ℕ)). f ∷ left_of p.1 p.2) (sym same))
+    let y = unwrap_or (source_of rem a) [] in
+    let (p, e, same) = took_next a.state y _ fields b.state (rw (config, there _ some) at r) in
+    let m = one_more a.state y p between e in
+    (left_of p.1 p.2, m.0 ∙ ap (λ (f : List (List ℕ)). f ∷ left_of p.1 p.2) (sym same))
 
 -- a read that is refused for the record's length, where three fields were expected
 pub other_length : {R : Type 0} (rem : R → Option (List ℕ)) (a b : Reader R) (why : ErrorKind) (pos : Option Position) (expected len : ℕ)

@@ -1,5 +1,5 @@
 -- Reading a deck's file: the ballots that its rows mark, or the first row with a fault.
-use Rattle.std.specs.Prelude.{⊤, ◌<◌, ℕ, ◌+◌, ◌-◌, ◌==◌, ◌&&◌, ◌||◌, ◌++◌, Bool, true, false, List, [], ◌∷◌, length, replicate, codes, not, nat_lt, if◌then◌else◌, Option, Some, None, option_map, option_and_then, Result, Ok, Err}
+use Rattle.std.specs.Prelude.{⊤, ◌<◌, ℕ, ◌+◌, ◌-◌, ◌==◌, ◌&&◌, ◌||◌, ◌++◌, true, false, List, [], ◌∷◌, length, replicate, codes, nat_lt, if◌then◌else◌, Option, Some, None, option_map, option_and_then, Result, Ok, Err}
 use Rattle.lat_base.specs.declared.contest.Contest.{Contest}
 use Rattle.lat_base.specs.declared.contest_names.ContestNames.{ContestNames}
 use Rattle.lat_base.specs.Shape.{target_count}

@@ -1,5 +1,5 @@
 -- A deck of which only the first ballots are in use.
-use Rattle.std.specs.Prelude.{◌≡◌, ◌<◌, ◌≤◌, ℕ, Bool, false, List, [], length, take, get_or, replicate}
+use Rattle.std.specs.Prelude.{◌≡◌, ◌<◌, ◌≤◌, ℕ, false, [], length, take, get_or, replicate}
 use Rattle.lat_ballots.specs.Deck.{Ballots, IsDeck}
 
 -- the deck of the ballots in use

@@ -7,5 +7,6 @@ pub mod Rows
 pub mod Left
 pub mod Numerals
 pub mod Draft
+pub mod RowCount
 pub mod DeckRead
 pub mod ReportRead

@@ -4,6 +4,7 @@ ghost use Rattle.lat_base.specs.Names.{NamesFit};
 ghost use Rattle.lat_base.specs.Shape.{target_count};
 ghost use Rattle.deck_text.specs.DeckRead.{ballot_number, mark_called, IsMarkOf, deck_row, deck_from, deck_read};
 ghost use Rattle.deck_text.specs.Faults.{Gives};
+ghost use Rattle.deck_text.specs.RowCount.{deck_rows};
 ghost use Rattle.deck_text.specs.Rows.{file_records};
 ghost use Rattle.deck_text.specs.TargetNames.{target_names};
 
@@ -49,23 +50,25 @@ fn mark_called(shape: &Shape, names: &Names, contest: &[u8], target: &[u8]) -> O
 }
 
 // Adds row `row` to the deck.
+#[tactic(auto, using(crate::proofs::RowCounts::row_more))]
 fn add_row(
     draft: &mut Draft,
     shape: &Shape,
     names: &Names,
     row: u32,
-    record: &ByteRecord,
+    fields: &ByteRecord,
 ) -> Result<(), CsvFault>
     requires fit { NamesFit names.now.contests shape.now }
     requires targets { draft.old.targets ≡ target_count shape.now }
-    ensures ok { OnOk result (deck_row (target_names names.now.contests) row draft.old (fields_of record.now) ≡ Ok draft.new) }
-    ensures fault { IfErr result (λ fault. deck_row (target_names names.now.contests) row draft.old (fields_of record.now) ≡ Err fault) }
+    ensures ok { OnOk result (deck_row (target_names names.now.contests) row draft.old (fields_of fields.now) ≡ Ok draft.new) }
+    ensures fault { IfErr result (λ fault. deck_row (target_names names.now.contests) row draft.old (fields_of fields.now) ≡ Err fault) }
     ensures targets { OnOk result (draft.new.targets ≡ draft.old.targets) }
+    ensures rows { OnOk result (deck_rows draft.new.ballots ≡ deck_rows draft.old.ballots + 1) }
 {
-    let Some(number) = ballot_number(draft.ballots(), field(record, 0)) else {
+    let Some(number) = ballot_number(draft.ballots(), field(fields, 0)) else {
         return Err(CsvFault::BadNumber(row));
     };
-    let Some(mark) = mark_called(shape, names, field(record, 1), field(record, 2)) else {
+    let Some(mark) = mark_called(shape, names, field(fields, 1), field(fields, 2)) else {
         return Err(CsvFault::UnknownTarget(row));
     };
     if !draft.add(number, mark) {
@@ -74,7 +77,8 @@ fn add_row(
     Ok(())
 }
 
-// The deck with the rows that are left, the first of which is row 2.
+// The deck with the rows that are left, the first of which is row 2. No deck has more than 262,144.
+#[tactic(auto, using(crate::proofs::RowCounts::rows_few))]
 fn read_rows(
     alloc: Global,
     mut draft: Draft,
@@ -88,16 +92,14 @@ fn read_rows(
     ensures targets { IfOk result (λ deck. deck.targets ≡ target_count shape.now) }
 {
     let mut row: u32 = 2;
-    let mut record = ByteRecord::new(alloc);
-    while let Some(rest) = rows.next(row, &mut record)? {
+    let mut fields = ByteRecord::new(alloc);
+    while let Some(rest) = rows.next(row, &mut fields)? {
         rows = rest;
-        if let Err(fault) = add_row(&mut draft, shape, names, row, &record) {
+        if let Err(fault) = add_row(&mut draft, shape, names, row, &fields) {
             return Err(CsvFail::Fault(fault));
         }
-        let Some(next) = row.checked_add(1) else {
-            return Err(CsvFail::Memory);
-        };
-        row = next;
+        let _ballots = draft.ballots();
+        row += 1;
     }
     Ok(draft)
 }

@@ -4,6 +4,7 @@ ghost use Rattle.lat_base.specs.Names.{NamesFit};
 ghost use Rattle.lat_base.specs.Shape.{target_count};
 ghost use Rattle.deck_text.specs.Faults.{Gives};
 ghost use Rattle.deck_text.specs.ReportRead.{report_row, report_from, whole_report, report_read};
+ghost use Rattle.deck_text.specs.RowCount.{total_rows};
 ghost use Rattle.deck_text.specs.Rows.{file_records};
 ghost use Rattle.deck_text.specs.TargetNames.{target_names};
 
@@ -27,22 +28,24 @@ fn no_totals(alloc: Global, shape: &Shape) -> Result<Vec<Option<u32>>, AllocErro
 }
 
 // Adds the total of row `row`.
+#[tactic(auto, using(crate::proofs::RowCounts::total_more))]
 fn add_row(
     totals: &mut [Option<u32>],
     shape: &Shape,
     names: &Names,
     row: u32,
-    record: &ByteRecord,
+    fields: &ByteRecord,
 ) -> Result<(), CsvFault>
     requires fit { NamesFit names.now.contests shape.now }
     requires targets { length totals.old ≡ target_count shape.now }
-    ensures ok { OnOk result (report_row (target_names names.now.contests) row totals.old (fields_of record.now) ≡ Ok totals.new) }
-    ensures fault { IfErr result (λ fault. report_row (target_names names.now.contests) row totals.old (fields_of record.now) ≡ Err fault) }
+    ensures ok { OnOk result (report_row (target_names names.now.contests) row totals.old (fields_of fields.now) ≡ Ok totals.new) }
+    ensures fault { IfErr result (λ fault. report_row (target_names names.now.contests) row totals.old (fields_of fields.now) ≡ Err fault) }
+    ensures rows { OnOk result (total_rows totals.new ≡ total_rows totals.old + 1) }
 {
-    let Some(total) = number_in(field(record, 2), u32::MAX) else {
+    let Some(total) = number_in(field(fields, 2), u32::MAX) else {
         return Err(CsvFault::BadNumber(row));
     };
-    let Some(t) = find_target(shape, names, field(record, 0), field(record, 1)) else {
+    let Some(t) = find_target(shape, names, field(fields, 0), field(fields, 1)) else {
         return Err(CsvFault::UnknownTarget(row));
     };
     if totals[usize::from(t)].is_some() {
@@ -52,7 +55,9 @@ fn add_row(
     Ok(())
 }
 
-// The totals with the rows that are left, the first of which is row 2.
+// The totals with the rows that are left, the first of which is row 2. There are no more rows than
+// targets.
+#[tactic(auto, using(crate::proofs::RowCounts::totals_few))]
 fn read_rows(
     alloc: Global,
     mut totals: Vec<Option<u32>>,
@@ -65,17 +70,15 @@ fn read_rows(
     ensures totals { Gives (λ totals. totals.items) result (report_from (target_names names.now.contests) 2 totals.items rows.entry) }
     ensures targets { IfOk result (λ totals. length totals.items ≡ target_count shape.now) }
 {
+    let _targets = shape.targets();
     let mut row: u32 = 2;
-    let mut record = ByteRecord::new(alloc);
-    while let Some(rest) = rows.next(row, &mut record)? {
+    let mut fields = ByteRecord::new(alloc);
+    while let Some(rest) = rows.next(row, &mut fields)? {
         rows = rest;
-        if let Err(fault) = add_row(&mut totals, shape, names, row, &record) {
+        if let Err(fault) = add_row(&mut totals, shape, names, row, &fields) {
             return Err(CsvFail::Fault(fault));
         }
-        let Some(next) = row.checked_add(1) else {
-            return Err(CsvFail::Memory);
-        };
-        row = next;
+        row += 1;
     }
     Ok(totals)
 }

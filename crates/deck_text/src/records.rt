@@ -38,19 +38,22 @@ impl<'a> Model for Records<'a> {
 }
 
 /// Field `i` of a record, or nothing past its end.
-pub fn field(record: &ByteRecord, i: usize) -> &[u8]
-    ensures { result.now ≡ field_of (fields_of record.now) i }
+pub fn field(fields: &ByteRecord, i: usize) -> &[u8]
+    ensures { result.now ≡ field_of (fields_of fields.now) i }
 {
-    match record.get(i) {
+    match fields.get(i) {
         Some(field) => field,
         None => &[],
     }
 }
 
-fn is_header(record: &ByteRecord, first: &[u8], second: &[u8], third: &[u8]) -> bool
-    ensures { result ≡ pointwise bytes_eq (fields_of record.now) (first.now ∷ second.now ∷ third.now ∷ []) }
+fn is_header(fields: &ByteRecord, first: &[u8], second: &[u8], third: &[u8]) -> bool
+    ensures { result ≡ pointwise bytes_eq (fields_of fields.now) (first.now ∷ second.now ∷ third.now ∷ []) }
 {
-    record.len() == 3 && field(record, 0) == first && field(record, 1) == second && field(record, 2) == third
+    fields.len() == 3
+        && field(fields, 0) == first
+        && field(fields, 1) == second
+        && field(fields, 2) == third
 }
 
 // A reader of these bytes with csv's default settings, but that no row is taken as headers.
@@ -80,10 +83,10 @@ impl<'a> Records<'a> {
         ensures { Gives (λ records. records) result (after_header (first.now ∷ second.now ∷ third.now ∷ []) (file_records bytes.now)) }
     {
         let mut reader = table_reader(alloc, bytes);
-        let mut record = ByteRecord::new(alloc);
-        match reader.read_byte_record(&mut record) {
+        let mut fields = ByteRecord::new(alloc);
+        match reader.read_byte_record(&mut fields) {
             Ok(true) => {
-                if is_header(&record, first, second, third) {
+                if is_header(&fields, first, second, third) {
                     Ok(Records { reader })
                 } else {
                     Err(CsvFail::Fault(CsvFault::NotCsv(1)))
@@ -96,12 +99,12 @@ impl<'a> Records<'a> {
 
     /// Reads the next record, which is row `row`: the records after it, or nothing where none is
     /// left. `NotCsv` where it hasn't three fields.
-    pub fn next(mut self, row: u32, record: &mut ByteRecord) -> Result<Option<Records<'a>>, CsvFail>
-        ensures found { IfOk result (λ o. MatchOption o (self.entry ≡ []) (λ rest. (self.entry ≡ fields_of record.new ∷ rest) × (length (fields_of record.new) ≡ 3))) }
+    pub fn next(mut self, row: u32, fields: &mut ByteRecord) -> Result<Option<Records<'a>>, CsvFail>
+        ensures found { IfOk result (λ o. MatchOption o (self.entry ≡ []) (λ rest. (self.entry ≡ fields_of fields.new ∷ rest) × (length (fields_of fields.new) ≡ 3))) }
         ensures other { IfErr result (λ e. e ≢ CsvFail.Memory → (e ≡ CsvFail.Fault (CsvFault.NotCsv row))
             × (fields : List (List ℕ)) × (rest : List (List (List ℕ))) × (self.entry ≡ fields ∷ rest) × (length fields ≢ 3)) }
     {
-        match self.reader.read_byte_record(record) {
+        match self.reader.read_byte_record(fields) {
             Ok(true) => Ok(Some(self)),
             Ok(false) => Ok(None),
             Err(e) => match e.kind() {

@@ -48,12 +48,7 @@ fn writes_tables(rt: HostRuntime) -> Result<(), Fail> {
 }
 
 // A deck's rows below the header, read and written again, or the fault.
-fn deck_again(
-    alloc: Global,
-    shape: &Shape,
-    names: &Names,
-    rows: &str,
-) -> Result<Vec<u8>, CsvFail>
+fn deck_again(alloc: Global, shape: &Shape, names: &Names, rows: &str) -> Result<Vec<u8>, CsvFail>
     requires { NamesFit names.now.contests shape.now }
 {
     let Ok(text) = format!(in alloc; "ballot,contest,target\n{rows}") else {
@@ -76,7 +71,10 @@ fn reads_decks(rt: HostRuntime) -> Result<(), Fail> {
     assert!(rt; names.fits(&shape));
     for (rows, same) in [
         ("", ""),
-        ("1,b,b2\r\n\"1\",\"a\",a1\r\n2,,\r\n", "1,a,a1\n1,b,b2\n2,,\n"),
+        (
+            "1,b,b2\r\n\"1\",\"a\",a1\r\n2,,\r\n",
+            "1,a,a1\n1,b,b2\n2,,\n",
+        ),
     ] {
         let text = deck_again(alloc, &shape, &names, rows)?;
         let expected = format!(in alloc; "ballot,contest,target\n{same}")?;
@@ -128,12 +126,24 @@ fn reads_reports(rt: HostRuntime) -> Result<(), Fail> {
     for (text, fault) in [
         ("", CsvFault::NotCsv(1)),
         ("ballot,contest,target\n1,a,a1\n", CsvFault::NotCsv(1)),
-        ("contest,target,total\na,a2,2\na,a1,1\nb,b1,1\nb,b2,03\n", CsvFault::BadNumber(5)),
-        ("contest,target,total\na,a2,4294967296\n", CsvFault::BadNumber(2)),
+        (
+            "contest,target,total\na,a2,2\na,a1,1\nb,b1,1\nb,b2,03\n",
+            CsvFault::BadNumber(5),
+        ),
+        (
+            "contest,target,total\na,a2,4294967296\n",
+            CsvFault::BadNumber(2),
+        ),
         ("contest,target,total\na,a2,007\n", CsvFault::BadNumber(2)),
         ("contest,target,total\na,b2,7\n", CsvFault::UnknownTarget(2)),
-        ("contest,target,total\na,a2,1\na,a2,1\n", CsvFault::Repeated(3)),
-        ("contest,target,total\na,a2,2\na,a1,1\nb,b1,1\n", CsvFault::Missing(3)),
+        (
+            "contest,target,total\na,a2,1\na,a2,1\n",
+            CsvFault::Repeated(3),
+        ),
+        (
+            "contest,target,total\na,a2,2\na,a1,1\nb,b1,1\n",
+            CsvFault::Missing(3),
+        ),
     ] {
         let fail = read_report_csv(alloc, &shape, &names, text.as_bytes()).err();
         assert_eq!(rt; fail, Some(CsvFail::Fault(fault)), "{text}");

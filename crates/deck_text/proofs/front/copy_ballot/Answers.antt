@@ -1,4 +1,4 @@
-use Rattle.std.proofs.Common.{[], ap, ◌∙◌, arith}
+use Rattle.std.proofs.Common.{[], ◌∙◌, arith}
 use Rattle.deck_text.proofs.DraftFacts.{mark_copied}
 use Rattle.deck_text.proofs.front.copy_ballot.Goals as goal
 

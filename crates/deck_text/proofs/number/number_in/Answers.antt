@@ -1,4 +1,4 @@
-use Rattle.std.proofs.Common.{◌∙◌, sym}
+use Rattle.std.proofs.Common.{sym}
 use Rattle.std.specs.declared.num.ParseIntError.{ParseIntError}
 use Rattle.deck_text.proofs.NumberFacts.{numeral_is_text, too_large, no_number, parses_field}
 use Rattle.deck_text.proofs.number.number_in.Goals as goal

@@ -30,5 +30,5 @@ pub returns-in-UnequalLengths-clause-other : goal.returns-in-UnequalLengths-clau
 returns-in-UnequalLengths-clause-other c memory =
     let (config, trim, flexible, first, expected, ended, source) = c.self.invariant in
     let (fields, rest, left, length) = other_length (λ (s : Bor (List ℕ)). Some s.now) c.self.inside.reader c.read_byte_record.new.self _ c.in-UnequalLengths.pos c.in-UnequalLengths.expected_len c.in-UnequalLengths.len
-        config source ended expected (sym c.kind.ensures ∙ c.in-UnequalLengths.is) (c.in-Err.ensures.why (inl first)) in
+    config source ended expected (sym c.kind.ensures ∙ c.in-UnequalLengths.is) (c.in-Err.ensures.why (inl first)) in
     (refl, fields, rest, sym c.self.view_is ∙ left, length)

@@ -1,5 +1,4 @@
-use Rattle.std.proofs.Common.{Bor, List, ℕ, Some, ◌∷◌, [], is_some, ◌∙◌, sym, ap, refl, inl, inr}
-use Rattle.std.specs.Str.{bytes_eq}
+use Rattle.std.proofs.Common.{Bor, List, ℕ, Some, ◌∷◌, [], is_some, ◌∙◌, sym, ap, refl, inr}
 use Rattle.csv.specs.Machine.{ends_at_end}
 use Rattle.csv.specs.Records.{fields_of}
 use Rattle.deck_text.specs.Rows.{after_header}
