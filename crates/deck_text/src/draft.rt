@@ -40,6 +40,7 @@ impl Draft {
         Draft::with_room(alloc, shape, 1024)
     }
 
+    // `most` is 1,024: a name for it keeps the proof from writing so many ballots out.
     fn with_room(alloc: Global, shape: &Shape, most: u16) -> Result<Draft, AllocError>
         requires { most ≡ 1024 }
         ensures { IfOk result (λ draft. draft ≡ blank_ballots (target_count shape.now) 0) }

@@ -93,6 +93,7 @@ impl<'a> Records<'a> {
                 }
             }
             Ok(false) => Err(CsvFail::Fault(CsvFault::NotCsv(1))),
+            // no other record was read, and bytes in memory never fail
             Err(_) => Err(CsvFail::Memory),
         }
     }
