@@ -1,6 +1,6 @@
 -- What a read of a record leaves.
 use Rattle.std.proofs.Common.{◌≡◌, ◌≢◌, ℕ, true, false, List, [], ◌∷◌, Option, Some, None, IsSome, unwrap_or, is_some, length, subst, refl, ap, sym, ◌∙◌}
-use Rattle.csv.specs.Machine.{Read, next_record, ends_at_end}
+use Rattle.csv.specs.Machine.{Read, ends_at_end}
 use Rattle.csv.specs.Reading.{Reached, ReadRecord, TookRecord, ReadsNext, NextIs, ExplainsRead, default_config, source_of, strip_bom}
 use Rattle.csv.specs.declared.reader.Reader.{Reader}
 use Rattle.csv.specs.declared.parser.State.{State}
@@ -50,19 +50,18 @@ next_is : (o : Option Read) (f : List (List ℕ)) (s : State) (z : List ℕ) →
 next_is None f s z n = cc n
 next_is (Some p) f s z n = (p, refl, n.1)
 
-took_next : (s : State) (y : List ℕ) (k : Option (List ℕ)) (f : List (List ℕ)) (t : State) → ReadsNext default_config s (Some y) k true f t
-    → (p : Read) × (next_record default_config s [] [] y ≡ Some p) × (f ≡ p.0)
-took_next s y None f t r = absurd r
-took_next s y (Some z) f t r = next_is _ f t z r
+took_next : (s : State) (y : List ℕ) (k : Option (List ℕ)) (f : List (List ℕ)) (t : State) → ends_at_end s ≡ false → ReadsNext default_config s (Some y) k true f t
+    → (rest : List (List (List ℕ))) × (left_of s y ≡ f ∷ rest)
+took_next s y None f t between r = absurd r
+took_next s y (Some z) f t between r =
+    let (p, e, same) = next_is _ f t z r in
+    let m = one_more s y p between e in
+    (left_of p.1 p.2, m.0 ∙ ap (λ (g : List (List ℕ)). g ∷ left_of p.1 p.2) (sym same))
 
 -- a record that was taken was the first of those left
 pub took_one : {R : Type 0} (rem : R → Option (List ℕ)) (a b : Reader R) (fields : List (List ℕ)) → a.config ≡ default_config → IsSome (source_of rem a)
     → ends_at_end a.state ≡ false → TookRecord rem a b fields → (rest : List (List (List ℕ))) × (reader_left rem a ≡ fields ∷ rest)
-took_one rem a b fields config some between r =
-    let y = unwrap_or (source_of rem a) [] in
-    let (p, e, same) = took_next a.state y _ fields b.state (rw (config, there _ some) at r) in
-    let m = one_more a.state y p between e in
-    (left_of p.1 p.2, m.0 ∙ ap (λ (f : List (List ℕ)). f ∷ left_of p.1 p.2) (sym same))
+took_one rem a b fields config some between r = took_next a.state _ _ fields b.state between (rw (config, there _ some) at r)
 
 -- a read that is refused for the record's length, where three fields were expected
 pub other_length : {R : Type 0} (rem : R → Option (List ℕ)) (a b : Reader R) (why : ErrorKind) (pos : Option Position) (expected len : ℕ)
