@@ -2,3 +2,10 @@ pub mod PlainRows
 pub mod Decimals
 pub mod Ranges
 pub mod Places
+pub mod CsvSteps
+pub mod ReaderSteps
+pub mod Fields
+pub mod NumberFacts
+pub mod Called
+pub mod DraftFacts
+pub mod RowCounts

@@ -2,3 +2,11 @@ pub mod Line
 pub mod TargetNames
 pub mod DeckText
 pub mod TotalsText
+pub mod Faults
+pub mod Rows
+pub mod Left
+pub mod Numerals
+pub mod Draft
+pub mod RowCount
+pub mod DeckRead
+pub mod ReportRead

@@ -1,6 +1,7 @@
 -- The names of a style's targets. A target's id is unique only within its contest, so both ids name it.
-use Rattle.std.specs.Prelude.{ℕ, List, [], map, get_or}
-use Rattle.std.specs.List.{flat_map}
+use Rattle.std.specs.Prelude.{ℕ, ◌&&◌, Bool, List, [], map, get_or, Option}
+use Rattle.std.specs.List.{flat_map, position_from}
+use Rattle.std.specs.Str.{bytes_eq}
 use Rattle.lat_base.specs.declared.contest_names.ContestNames.{ContestNames}
 
 -- the id of a target's contest, and its own
@@ -23,3 +24,11 @@ no_name = record { contest = []; target = [] }
 -- the name of target t
 abbrev pub name_at : List FullName → ℕ → FullName
 name_at names t = get_or names t no_name
+
+-- whether a name has these ids
+abbrev pub is_called : List ℕ → List ℕ → FullName → Bool
+is_called contest target name = bytes_eq name.contest contest && bytes_eq name.target target
+
+-- the number of the target with these ids, where there is one
+abbrev pub target_called : List FullName → List ℕ → List ℕ → Option ℕ
+target_called names contest target = position_from (is_called contest target) 0 names

@@ -2,30 +2,17 @@ ghost use Rattle.std.specs.Prelude.{◌≡◌, ◌<◌, ◌+◌, ◌++◌, lengt
 ghost use Rattle.std.specs.List.{flat_map, range_with_len, list_all};
 ghost use Rattle.lat_base.specs.Id.{is_id_byte};
 ghost use Rattle.lat_base.specs.Names.{NamesFit};
-ghost use Rattle.lat_base.specs.Rules.{is_blank};
 ghost use Rattle.lat_base.specs.Shape.{target_count};
 ghost use Rattle.lat_ballots.specs.Deck.{ballot_at};
 ghost use Rattle.deck_text.specs.TargetNames.{target_names};
 ghost use Rattle.deck_text.specs.DeckText.{mark_line, numbered_lines, deck_text};
 
+use crate::blank::is_blank;
 use crate::table::Table;
 use crate::target_name::TargetName;
 use lat_ballots::Deck;
 use lat_base::{Names, Shape};
 use std::alloc::{AllocError, Global};
-
-// Whether ballot j has no mark.
-fn is_blank(deck: &Deck, j: u16) -> bool
-    requires { j < length deck.now.ballots }
-    ensures { result ≡ is_blank (ballot_at deck.now j) }
-{
-    for t in 0..deck.targets() {
-        if deck.is_marked(j, t) {
-            return false;
-        }
-    }
-    true
-}
 
 // The table with the row of ballot j's mark at target t, where there is one.
 fn write_mark(

@@ -1,7 +1,7 @@
 use Rattle.std.proofs.Common.{◌≡◌, drop}
 use Rattle.lat_base.specs.Rules.{is_blank}
 use Rattle.lat_ballots.specs.Deck.{ballot_at}
-use Rattle.deck_text.proofs.write_deck.is_blank.Given as goal
+use Rattle.deck_text.proofs.blank.is_blank.Given as goal
 
 -- the ballot is blank where it is from here on
 abbrev pub invariant-loop-t : goal.invariant-loop-t
