@@ -3,3 +3,4 @@ pub mod Runs
 pub mod Slices
 pub mod Rows
 pub mod PlainDeck
+pub mod Sorting

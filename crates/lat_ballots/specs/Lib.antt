@@ -1,3 +1,4 @@
 pub mod Row
 pub mod Deck
 pub mod Plain
+pub mod Falling

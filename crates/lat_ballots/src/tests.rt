@@ -58,3 +58,27 @@ fn the_plain_deck(rt: HostRuntime) -> Result<(), Fail> {
     }
     Ok(())
 }
+
+// Ballots {1}, {}, {0, 1}, {1}: the order is by target 0 first, a mark before none.
+#[test]
+fn ballots_are_put_in_order(rt: HostRuntime) -> Result<(), Fail> {
+    let alloc = rt.alloc();
+    let contest = Contest {
+        limit: 1,
+        targets: 2,
+    };
+    let shape = Shape::new(alloc, &[contest])?;
+    let mut deck = Deck::blank(alloc, &shape, 4)?;
+    for (j, t) in [(0, 1), (2, 0), (2, 1), (3, 1)] {
+        if j < deck.ballots() && t < deck.targets() {
+            deck.set(j, t, true);
+        }
+    }
+    deck.sort_rows(alloc)?;
+    for (j, marks) in [0b11, 0b10, 0b10, 0].into_iter().enumerate() {
+        if j < usize::from(deck.ballots()) && deck.targets() == 2 {
+            assert_eq!(rt; deck.marks(j as u16, 0, 2), marks, "{j}");
+        }
+    }
+    Ok(())
+}

@@ -1,6 +1,26 @@
-ghost use Rattle.std.specs.Prelude.{◌≡◌, ◌<◌, ◌≤◌, ◌+◌, ◌-◌, ◌*◌, ◌^◌, get_or, slice_range};
+ghost use Rattle.std.specs.Prelude.{false, ◌≡◌, ◌<◌, ◌≤◌, ◌+◌, ◌-◌, ◌*◌, ◌^◌, get_or, slice_range};
 ghost use Rattle.std.specs.Simd.Lanes.{mask_l};
 ghost use Rattle.lat_ballots.specs.Row.{bits_of};
+
+// Whether bit `t` is set.
+#[tactic(auto, using(crate::proofs::OneBit::bit_read))]
+pub(crate) fn is_set(words: &[u64; 4], t: u16) -> bool
+    requires { t < 256 }
+    ensures { result ≡ get_or (bits_of words.now) t false }
+{
+    (words[usize::from(t / 64)] >> (t % 64)) & 1 == 1
+}
+
+// All bits, in order.
+pub(crate) fn to_array(words: &[u64; 4]) -> [bool; 256]
+    ensures { result ≡ bits_of words.now }
+{
+    let mut bits = [false; 256];
+    for t in 0..256 {
+        bits[usize::from(t)] = is_set(words, t);
+    }
+    bits
+}
 
 // The word of that number and the next, of higher worth, as one number. No word follows the last.
 fn join_words(words: &[u64; 4], word: u16) -> u128
