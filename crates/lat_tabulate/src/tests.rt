@@ -1,6 +1,6 @@
 use super::*;
-use lat_ballots::Deck;
-use lat_base::{Contest, Shape};
+use lat_ballots::{Deck, plain_size};
+use lat_base::{Contest, Rules, Shape};
 use lat_misassign::Misassignment;
 use std::alloc::{AllocError, Global};
 use std::test::Fail;
@@ -60,5 +60,24 @@ fn counts_votes_as_read(rt: HostRuntime) -> Result<(), Fail> {
         (lost_of(&shape, &deck), lost_of(&shape, &full)),
         (Some(0), Some(4))
     );
+    Ok(())
+}
+
+// The plain deck of the same style: the wholly marked ballot overvotes both contests.
+#[test]
+fn the_plain_deck_has_rising_totals(rt: HostRuntime) -> Result<(), Fail> {
+    let alloc = rt.alloc();
+    let contest = Contest {
+        limit: 1,
+        targets: 2,
+    };
+    let shape = Shape::new(alloc, &[contest; 2])?;
+    let rules = Rules::new(true, 1, 1, 1)?;
+    if plain_size(&shape, &rules) <= 1024 {
+        let deck = Deck::plain(alloc, &shape, &rules)?;
+        for u in 0..shape.targets() {
+            assert_eq!(rt; total(&shape, &deck, u), u32::from(u) + 1, "{u}");
+        }
+    }
     Ok(())
 }
