@@ -34,7 +34,6 @@ fn write_mark(
 }
 
 // The table with the rows of ballot j's marks in a contest whose targets are numbered from `first`.
-#[tactic(auto, using(crate::proofs::ContestLines::target_line))]
 fn write_contest(
     mut table: Table,
     contest: &ContestNames,
