@@ -9,3 +9,4 @@ pub mod NumberFacts
 pub mod Called
 pub mod DraftFacts
 pub mod RowCounts
+pub mod ContestLines

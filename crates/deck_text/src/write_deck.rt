@@ -1,77 +1,93 @@
-ghost use Rattle.std.specs.Prelude.{◌≡◌, ◌<◌, ◌+◌, ◌++◌, length, IfOk, IsTrue};
+ghost use Rattle.std.specs.Prelude.{◌≡◌, ◌<◌, ◌≤◌, ◌+◌, ◌++◌, [], length, drop, if◌then◌else◌, IfOk, IsTrue};
 ghost use Rattle.std.specs.List.{flat_map, range_with_len, list_all};
 ghost use Rattle.lat_base.specs.Id.{is_id_byte};
-ghost use Rattle.lat_base.specs.Names.{NamesFit};
-ghost use Rattle.lat_base.specs.Shape.{target_count};
-ghost use Rattle.lat_ballots.specs.Deck.{ballot_at};
-ghost use Rattle.deck_text.specs.TargetNames.{target_names};
+ghost use Rattle.lat_ballots.specs.Deck.{ballot_at, mark_at};
+ghost use Rattle.deck_text.specs.Line.{line};
+ghost use Rattle.deck_text.specs.TargetNames.{names_in, target_names};
 ghost use Rattle.deck_text.specs.DeckText.{mark_line, numbered_lines, deck_text};
 
 use crate::blank::is_blank;
 use crate::table::Table;
-use crate::target_name::TargetName;
 use lat_ballots::Deck;
-use lat_base::{Names, Shape};
+use lat_base::{ContestNames, Id, Names};
 use std::alloc::{AllocError, Global};
 
-// The table with the row of ballot j's mark at target t, where there is one.
+// The table with the row of ballot j's mark at target t, which has these ids, where there is one.
 fn write_mark(
     table: Table,
-    shape: &Shape,
-    names: &Names,
+    contest: &Id,
+    target: &Id,
     deck: &Deck,
     number: &[u8],
     j: u16,
     t: u16,
 ) -> Result<Table, AllocError>
-    requires fit { NamesFit names.now.contests shape.now }
-    requires targets { deck.now.targets ≡ target_count shape.now }
     requires number { IsTrue (list_all is_id_byte number.now) }
     requires ballot { j < length deck.now.ballots }
-    requires target { t < target_count shape.now }
-    ensures { IfOk result (λ after. after ≡ table ++ mark_line (target_names names.now.contests) number.now (ballot_at deck.now j) t) }
+    requires target { t < deck.now.targets }
+    ensures { IfOk result (λ after. after ≡ table ++ (if mark_at deck.now j t then line number.now contest.now target.now else [])) }
 {
     if !deck.is_marked(j, t) {
         return Ok(table);
     }
-    let name = TargetName::of(shape, names, t);
-    table.row(number, name.contest, name.target)
+    table.row(number, contest.as_bytes(), target.as_bytes())
+}
+
+// The table with the rows of ballot j's marks in a contest whose targets are numbered from `first`.
+fn write_contest(
+    mut table: Table,
+    contest: &ContestNames,
+    deck: &Deck,
+    number: &[u8],
+    j: u16,
+    first: u16,
+) -> Result<Table, AllocError>
+    requires number { IsTrue (list_all is_id_byte number.now) }
+    requires ballot { j < length deck.now.ballots }
+    requires targets { first + length contest.now.targets ≤ deck.now.targets }
+    ensures { IfOk result (λ after. after ≡ table ++ flat_map (mark_line (names_in contest.now) number.now (drop first (ballot_at deck.now j))) (range_with_len 0 (length contest.now.targets))) }
+{
+    let _targets = deck.targets();
+    for (i, target) in contest.targets.as_slice().iter().enumerate() {
+        let t = first + i as u16;
+        table = write_mark(table, &contest.id, target, deck, number, j, t)?;
+    }
+    Ok(table)
 }
 
 // The table with the rows of ballot j's marks.
-#[tactic(auto, using(crate::proofs::Ranges::lines_more))]
+#[tactic(auto, using(crate::proofs::ContestLines::names_more, crate::proofs::ContestLines::names_within, crate::proofs::ContestLines::contest_more))]
 fn write_marks(
     mut table: Table,
-    shape: &Shape,
     names: &Names,
     deck: &Deck,
     number: &[u8],
     j: u16,
 ) -> Result<Table, AllocError>
-    requires fit { NamesFit names.now.contests shape.now }
-    requires targets { deck.now.targets ≡ target_count shape.now }
+    requires targets { length (target_names names.now.contests) ≡ deck.now.targets }
     requires number { IsTrue (list_all is_id_byte number.now) }
     requires ballot { j < length deck.now.ballots }
-    ensures { IfOk result (λ after. after ≡ table ++ flat_map (mark_line (target_names names.now.contests) number.now (ballot_at deck.now j)) (range_with_len 0 (target_count shape.now))) }
+    ensures { IfOk result (λ after. after ≡ table ++ flat_map (mark_line (target_names names.now.contests) number.now (ballot_at deck.now j)) (range_with_len 0 (length (target_names names.now.contests)))) }
 {
-    for t in 0..shape.targets() {
-        table = write_mark(table, shape, names, deck, number, j, t)?;
+    let _targets = deck.targets();
+    let mut first = 0;
+    for contest in names.contests() {
+        table = write_contest(table, contest, deck, number, j, first)?;
+        first += contest.targets.as_slice().len() as u16;
     }
     Ok(table)
 }
 
 // The table with the rows of ballot j.
-#[tactic(auto, using(crate::proofs::Decimals::number_ids, crate::proofs::Places::names_count))]
+#[tactic(auto, using(crate::proofs::Decimals::number_ids))]
 fn write_ballot(
     alloc: Global,
     table: Table,
-    shape: &Shape,
     names: &Names,
     deck: &Deck,
     j: u16,
 ) -> Result<Table, AllocError>
-    requires fit { NamesFit names.now.contests shape.now }
-    requires targets { deck.now.targets ≡ target_count shape.now }
+    requires targets { length (target_names names.now.contests) ≡ deck.now.targets }
     requires ballot { j < length deck.now.ballots }
     ensures { IfOk result (λ after. after ≡ table ++ numbered_lines (target_names names.now.contests) deck.now.ballots j) }
 {
@@ -80,7 +96,7 @@ fn write_ballot(
     if is_blank(deck, j) {
         return table.row(number.as_bytes(), b"", b"");
     }
-    write_marks(table, shape, names, deck, number.as_bytes(), j)
+    write_marks(table, names, deck, number.as_bytes(), j)
 }
 
 /// The text of a deck's file: the header `ballot,contest,target`, and for each ballot, numbered
@@ -89,19 +105,13 @@ fn write_ballot(
 /// commas, each row ends with one line feed, and no field has quotes (RFC 4180).
 ///
 /// The one error is want of memory.
-pub fn deck_csv(
-    alloc: Global,
-    shape: &Shape,
-    names: &Names,
-    deck: &Deck,
-) -> Result<Vec<u8>, AllocError>
-    requires fit { NamesFit names.now.contests shape.now }
-    requires targets { deck.now.targets ≡ target_count shape.now }
+pub fn deck_csv(alloc: Global, names: &Names, deck: &Deck) -> Result<Vec<u8>, AllocError>
+    requires { length (target_names names.now.contests) ≡ deck.now.targets }
     ensures { IfOk result (λ bytes. bytes.items ≡ deck_text names.now.contests deck.now.ballots) }
 {
     let mut table = Table::new(alloc).row(b"ballot", b"contest", b"target")?;
     for j in 0..deck.ballots() {
-        table = write_ballot(alloc, table, shape, names, deck, j)?;
+        table = write_ballot(alloc, table, names, deck, j)?;
     }
     table.into_bytes()
 }

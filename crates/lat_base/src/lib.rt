@@ -20,3 +20,6 @@ pub use names0::Names0;
 pub use rules::{RuleFault, Rules};
 pub use shape::Shape;
 pub use shape_fault::ShapeFault;
+
+#[cfg(test)]
+mod tests;

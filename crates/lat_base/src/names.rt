@@ -84,6 +84,13 @@ impl Names {
         &self.style
     }
 
+    /// The ids of the contests and their targets, in order.
+    pub fn contests(&self) -> &[ContestNames]
+        ensures { result.now ≡ self.now.contests }
+    {
+        self.contests.as_slice()
+    }
+
     /// The id of contest `c`.
     pub fn contest(&self, c: u16) -> &Id
         requires { c < length self.now.contests }

@@ -45,6 +45,13 @@ impl Names0 {
         Ok(self.ids.push(id)?)
     }
 
+    /// The ids.
+    pub fn as_slice(&self) -> &[Id]
+        ensures { result.now ≡ self.now }
+    {
+        self.ids.as_slice()
+    }
+
     // Whether an id stands twice.
     pub(crate) fn has_twice(&self) -> bool
         ensures { result ≡ has_twice self.now }

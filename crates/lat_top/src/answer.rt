@@ -47,7 +47,7 @@ fn deck_files(
     requires fits { NamesFit style.now.names.contests style.now.shape }
     ensures { IfOk result (λ puts. entries puts.items ≡ deck_files prefix.now style.now deck.now.ballots) }
 {
-    let ballots = deck_csv(alloc, &style.shape, &style.names, deck)?;
+    let ballots = deck_csv(alloc, &style.names, deck)?;
     let totals = totals_csv(alloc, &style.shape, &style.names, deck)?;
     let mut puts = Vec::new(alloc);
     puts.push(deck_file(alloc, prefix, ballots)?)?;

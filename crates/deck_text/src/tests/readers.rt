@@ -7,6 +7,7 @@ use std::alloc::Global;
 use std::test::Fail;
 
 // A deck's file that is read and written again, or the fault.
+#[tactic(auto, using(crate::proofs::Places::names_count))]
 fn deck_again(alloc: Global, shape: &Shape, names: &Names, text: &str) -> Result<Vec<u8>, CsvFail>
     requires { NamesFit names.now.contests shape.now }
 {
@@ -14,7 +15,7 @@ fn deck_again(alloc: Global, shape: &Shape, names: &Names, text: &str) -> Result
     if deck.targets() != shape.targets() {
         return Err(CsvFail::Memory);
     }
-    match deck_csv(alloc, shape, names, &deck) {
+    match deck_csv(alloc, names, &deck) {
         Ok(text) => Ok(text),
         Err(_) => Err(CsvFail::Memory),
     }

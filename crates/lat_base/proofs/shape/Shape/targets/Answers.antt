@@ -1,5 +1,4 @@
-use Rattle.std.proofs.Common.{◌≡◌, length, subst, arith}
-use Rattle.lat_base.specs.Shape.{target_count, IsShape}
+use Rattle.std.proofs.Common.{◌≡◌, length, arith}
 use Rattle.lat_base.proofs.ShapeFacts.{some_target, firsts_end}
 use Rattle.lat_base.proofs.shape.Shape.targets.Goals as goal
 
