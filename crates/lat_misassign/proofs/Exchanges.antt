@@ -11,7 +11,7 @@ use Rattle.lat_base.specs.declared.contest.Contest.{Contest}
 use Rattle.lat_base.specs.Shape.{target_count, first_target, contest_at, no_contest}
 use Rattle.lat_base.specs.Misassignment.{IsMisassignment}
 use Rattle.lat_misassign.specs.Sources.{AreSources, exchanged, contests_exchanged}
-use Rattle.lat_misassign.proofs.Identity.{once_there, identity_more}
+use Rattle.readings.proofs.Ranges.{one_in}
 
 -- the numbers that f takes to t, where f is its own inverse
 counted : (f : ℕ → ℕ) → ((u : ℕ) → f (f u) ≡ u) → (t a n : ℕ) → count_by (λ x. x == t) (map f (range_with_len a n)) ≡ count_by (λ x. x == f t) (range_with_len a n)
@@ -34,7 +34,7 @@ sources_of f twice n within some few =
       some = omega (arith, e);
       few = omega (arith, e);
       is = subst (λ (m : ℕ). IsMisassignment m (map f (range_with_len 0 n))) (sym e)
-          (record { long = e; once = λ t lt. counted f twice t 0 n ∙ once_there 0 n (f t) (omega arith) (omega (arith, within t lt)) });
+          (record { long = e; once = λ t lt. counted f twice t 0 n ∙ one_in 0 n (f t) (omega arith) (omega (arith, within t lt)) });
     }
 
 -- the exchange of two runs of targets
@@ -123,7 +123,3 @@ exchanged_sources contests c d h k e some few =
     (next_first contests c h) (omega (arith, next_first contests d k, e)) (contests_apart contests c d)
     (sum_by-take-le (λ (x : Contest). x.targets) contests (c + 1)) (sum_by-take-le (λ (x : Contest). x.targets) contests (d + 1)) in
     sources_of (exchanged contests c d) parts.0 (target_count contests) parts.1 some few
-
--- one more source
-pub exchanged_more : (f : ℕ → ℕ) (n : ℕ) → map f (range_with_len 0 (n + 1)) ≡ map f (range_with_len 0 n) ++ f n ∷ []
-exchanged_more f n = ap (map f) (identity_more n) ∙ map-append f (range_with_len 0 n) (n ∷ [])

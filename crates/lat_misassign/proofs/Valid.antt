@@ -13,7 +13,8 @@ use Rattle.lat_misassign.specs.declared.fault.MisFault.{MisFault}
 use Rattle.lat_misassign.specs.declared.fault.MisFault.TheVariants.{OutOfRange, Repeated}
 use Rattle.lat_misassign.specs.Sources.{AreSources}
 use Rattle.lat_misassign.specs.SourceFault.{fault_from, source_fault}
-use Rattle.lat_misassign.proofs.Counts.{count_of, one_fewer, within_of}
+use Rattle.readings.proofs.Within.{within_of}
+use Rattle.lat_misassign.proofs.Counts.{count_of, one_fewer}
 
 -- where nothing is found, the test failed and nothing is found after it
 nothing : {A : Type 0} (b : Bool) (x : A) (y : Option A) → cond b (Some x) y ≡ None → (b ≡ false) × (y ≡ None)

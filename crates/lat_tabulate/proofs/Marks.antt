@@ -7,24 +7,16 @@ use Rattle.lat_base.specs.declared.contest.Contest.{Contest}
 use Rattle.lat_base.specs.Shape.{IsShape, first_target, target_count, no_contest}
 use Rattle.lat_base.specs.Misassignment.{IsMisassignment}
 use Rattle.lat_misassign.specs.Sources.{AreSources}
-use Rattle.lat_misassign.proofs.Counts.{within_of}
+use Rattle.readings.proofs.Within.{within_of}
+use Rattle.readings.proofs.Grouped.{slice_more}
 use Rattle.lat_tabulate.specs.Fitting.{AreRead}
 use Rattle.lat_base.specs.Tally.{reading, is_marked}
-
-pub range_more : (xs : List Bool) (a t : ℕ) → a ≤ t → t < length xs
-    → count_by (λ m. m) (slice_range xs a (t + 1)) ≡ count_by (λ m. m) (slice_range xs a t) + cond (get_or xs t false) 1 0
-range_more xs a t le lt =
-    let one : t + 1 - a ≡ (t - a) + 1 = omega arith in
-    let back : a + (t - a) ≡ t = omega arith in
-    ap (λ (n : ℕ). count_by (λ m. m) (take n (drop a xs))) one
-    ∙ sum_by_more (λ (m : Bool). cond m 1 0) (drop a xs) (t - a) false (omega (arith, length-drop a xs))
-    ∙ ap (λ (m : Bool). count_by (λ m. m) (take (t - a) (drop a xs)) + cond m 1 0) (get_or-drop a xs (t - a) false ∙ ap (λ (n : ℕ). get_or xs n false) back)
 
 -- one more target adds its mark, as read
 pub marks_more : (ballot : List Bool) (s : List ℕ) (a t : ℕ) → a ≤ t → t < length s
     → count_by (λ m. m) (slice_range (reading ballot s) a (t + 1)) ≡ count_by (λ m. m) (slice_range (reading ballot s) a t) + cond (is_marked ballot (get_or s t 0)) 1 0
 marks_more ballot s a t le lt =
-    range_more (reading ballot s) a t le (omega (arith, lt, length-map s (λ (u : ℕ). is_marked ballot u)))
+    slice_more (reading ballot s) a t le (omega (arith, lt, length-map s (λ (u : ℕ). is_marked ballot u)))
     ∙ ap (λ (m : Bool). count_by (λ m. m) (slice_range (reading ballot s) a t) + cond m 1 0) (get_or-map (λ (u : ℕ). is_marked ballot u) s t 0 false lt)
 
 pub first_le_next : (contests : List Contest) (c : ℕ) → c < length contests → first_target contests c ≤ first_target contests (c + 1)

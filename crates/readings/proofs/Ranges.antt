@@ -1,0 +1,53 @@
+-- Ranges of numbers.
+use Rattle.std.proofs.Common.{◌≡◌, ◌≤◌, ◌<◌, ◌+◌, ◌++◌, ℕ, zero, suc, Bool, true, false, List, [], ◌∷◌, cond, count_by, sum_by, map, refl, ap, ◌∙◌, arith}
+use Rattle.std.specs.Prelude.{◌==◌}
+use Rattle.std.specs.List.{range_with_len}
+use Rattle.std.proofs.lemmas.List.{map-append}
+use Rattle.std.proofs.lemmas.List.Sums.{sum_by-cons, sum_by_push}
+use Rattle.std.proofs.lemmas.Bool.Decides.{nat_tests}
+
+-- a range with one more number
+pub range_suc : (a n : ℕ) → range_with_len a (suc n) ≡ range_with_len a n ++ (a + n) ∷ []
+range_suc a zero = ap (λ (m : ℕ). m ∷ []) (omega arith)
+range_suc a (suc n) = ap (λ (xs : List ℕ). a ∷ xs) (range_suc (a + 1) n ∙ ap (λ (m : ℕ). range_with_len (a + 1) n ++ m ∷ []) (omega arith))
+
+-- the numbers below n + 1 are those below n, and n
+pub range_more : (n : ℕ) → range_with_len 0 (n + 1) ≡ range_with_len 0 n ++ n ∷ []
+range_more n =
+    let next : n + 1 ≡ suc n = omega arith in
+    let here : 0 + n ≡ n = omega arith in
+    ap (range_with_len 0) next ∙ (range_suc 0 n ∙ ap (λ (m : ℕ). range_with_len 0 n ++ m ∷ []) here)
+
+-- a list made from the numbers below n + 1
+pub made_more : {X : Type 0} (f : ℕ → X) (n : ℕ) → map f (range_with_len 0 (n + 1)) ≡ map f (range_with_len 0 n) ++ f n ∷ []
+made_more f n = ap (map f) (range_more n) ∙ map-append f (range_with_len 0 n) (n ∷ [])
+
+-- a count over the numbers below n + 1
+pub count_more : (p : ℕ → Bool) (n : ℕ) → count_by p (range_with_len 0 (n + 1)) ≡ count_by p (range_with_len 0 n) + cond (p n) 1 0
+count_more p n = ap (count_by p) (range_more n) ∙ sum_by_push (λ (x : ℕ). cond (p x) 1 0) (range_with_len 0 n) n
+
+-- a sum over the numbers below n + 1
+pub sum_more : (f : ℕ → ℕ) (n : ℕ) → sum_by f (range_with_len 0 (n + 1)) ≡ sum_by f (range_with_len 0 n) + f n
+sum_more f n = ap (sum_by f) (range_more n) ∙ sum_by_push f (range_with_len 0 n) n
+
+-- a number before a range is not in it
+pub none_in : (a n m : ℕ) → m < a → count_by (λ x. x == m) (range_with_len a n) ≡ 0
+none_in a zero m h = refl
+none_in a (suc n) m h =
+    let here : ◌≡◌ {A = ℕ} (cond (a == m) 1 0) 0 = grind (arith, nat_tests, h) in
+    omega (arith, sum_by-cons (λ (x : ℕ). cond (x == m) 1 0) a (range_with_len (a + 1) n), here, none_in (a + 1) n m (omega (arith, h)))
+
+-- a number of a range is in it once
+pub one_in : (a n m : ℕ) → a ≤ m → m < a + n → count_by (λ x. x == m) (range_with_len a n) ≡ 1
+one_in a zero m h k = absurd (omega (arith, h, k))
+one_in a (suc n) m h k = by_test (a == m) refl (λ other. one_in (a + 1) n m other (omega (arith, k)))
+  where
+    by_test : (b : Bool) → (a == m) ≡ b → (a + 1 ≤ m → count_by (λ x. x == m) (range_with_len (a + 1) n) ≡ 1) → count_by (λ x. x == m) (a ∷ range_with_len (a + 1) n) ≡ 1
+    by_test true e more =
+        let here : ◌≡◌ {A = ℕ} (cond (a == m) 1 0) 1 = ap (λ (b : Bool). cond b 1 0) e in
+        let same : a ≡ m = grind (arith, nat_tests, e) in
+        omega (arith, sum_by-cons (λ (x : ℕ). cond (x == m) 1 0) a (range_with_len (a + 1) n), here, none_in (a + 1) n m (omega (arith, same)))
+    by_test false e more =
+        let here : ◌≡◌ {A = ℕ} (cond (a == m) 1 0) 0 = ap (λ (b : Bool). cond b 1 0) e in
+        let other : a + 1 ≤ m = grind (arith, nat_tests, e, h) in
+        omega (arith, sum_by-cons (λ (x : ℕ). cond (x == m) 1 0) a (range_with_len (a + 1) n), here, more other)

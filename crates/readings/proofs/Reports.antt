@@ -1,0 +1,21 @@
+-- Reports and their totals.
+use Rattle.std.proofs.Common.{◌≡◌, ◌≤◌, ◌<◌, ◌+◌, ℕ, zero, suc, Bool, List, ◌∷◌, get_or, map, refl, ap, sym, ◌∙◌, arith}
+use Rattle.std.specs.List.{range_with_len}
+use Rattle.std.proofs.lemmas.List.FromFn.{get_or-map-range_with_len}
+use Rattle.lat_base.specs.declared.contest.Contest.{Contest}
+use Rattle.lat_base.specs.Shape.{target_count}
+use Rattle.lat_base.specs.Tally.{total, report}
+
+-- lists made by functions that agree on the numbers of a range
+pub alike : (f g : ℕ → ℕ) (a n : ℕ) → ((u : ℕ) → a ≤ u → u < a + n → f u ≡ g u) → map f (range_with_len a n) ≡ map g (range_with_len a n)
+alike f g a zero h = refl
+alike f g a (suc n) h = λ i. h a (omega arith) (omega arith) i ∷ alike f g (a + 1) n (λ u low high. h u (omega arith) (omega arith)) i
+
+-- equal totals make equal reports
+pub same_report : (contests : List Contest) (deck : List (List Bool)) (s o : List ℕ) → ((u : ℕ) → u < target_count contests → total contests deck s u ≡ total contests deck o u) → report contests deck s ≡ report contests deck o
+same_report contests deck s o h = alike (total contests deck s) (total contests deck o) 0 (target_count contests) (λ u low high. h u (omega (arith, high)))
+
+-- equal reports have equal totals
+pub report_same : (contests : List Contest) (deck : List (List Bool)) (s o : List ℕ) (u : ℕ) → u < target_count contests → report contests deck s ≡ report contests deck o → total contests deck s u ≡ total contests deck o u
+report_same contests deck s o u h same = sym (get_or-map-range_with_len (total contests deck s) 0 (target_count contests) u u 0 h (omega arith))
+    ∙ (ap (λ (r : List ℕ). get_or r u 0) same ∙ get_or-map-range_with_len (total contests deck o) 0 (target_count contests) u u 0 h (omega arith))
