@@ -4,11 +4,13 @@
 mod losses;
 mod read;
 mod reports;
+mod same_report;
 mod totals;
 
 pub use losses::lost;
 pub use read::total_read;
 pub use reports::report;
+pub use same_report::leaves_report;
 pub use totals::{mark_count, total, total_under};
 
 #[cfg(test)]

@@ -1,5 +1,4 @@
 pub mod NumberFacts
-pub mod Reports
 pub mod Fronts
 pub mod Tried
 pub mod Decks

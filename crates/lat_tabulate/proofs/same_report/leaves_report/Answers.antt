@@ -3,8 +3,8 @@ use borrow.Author.Count.{below_more}
 use Rattle.lat_base.specs.Shape.{target_count}
 use Rattle.lat_base.specs.Misassignment.{identity}
 use Rattle.lat_base.specs.Tally.{total, own_total}
-use Rattle.lat_top.proofs.Reports.{report_at, same_report}
-use Rattle.lat_top.proofs.plain_robust.has_same_report.Goals as goal
+use Rattle.readings.proofs.Reports.{report_same, same_report}
+use Rattle.lat_tabulate.proofs.same_report.leaves_report.Goals as goal
 
 pub returns-then-total_under-total : goal.returns-then-total_under-total
 returns-then-total_under-total c =
@@ -14,7 +14,7 @@ returns-then-total_under-total c =
     let lt : u < target_count cs = omega (arith, c.loop-u-test.true, c.targets-u-end.ensures.count) in (
       λ h. cc h,
       λ e. absurd (c.if-total_under-total.true
-          (c.total_under.ensures.votes ∙ (sym (report_at cs deck c.args.s.now u lt) ∙ (ap (λ (r : List ℕ). get_or r u 0) e ∙ report_at cs deck (identity (target_count cs)) u lt)) ∙ sym c.total.ensures.votes)),
+          (c.total_under.ensures.votes ∙ (report_same cs deck c.args.s.now (identity (target_count cs)) u lt e ∙ sym c.total.ensures.votes))),
     )
 
 pub loop-u-preserved : goal.loop-u-preserved
