@@ -1,3 +1,3 @@
 pub mod First
-pub mod Places
+pub mod Named
 pub mod Unbroken

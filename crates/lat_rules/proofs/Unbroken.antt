@@ -12,7 +12,7 @@ use Rattle.lat_base.specs.Rules.{RuleSet, Obeys}
 use Rattle.lat_rules.specs.declared.broken.Broken.{Broken}
 use Rattle.lat_rules.specs.declared.broken.Broken.TheVariants.{Blank, Over, Least, Equal}
 use Rattle.lat_rules.specs.Broken.{or_else, first_broken, blank_count, over_count, broken_blank, broken_over, broken_least, broken_pair, broken_equal, broken_distinct, broken_rule}
-use Rattle.lat_rules.proofs.Places.{before_next, same_contest}
+use Rattle.readings.proofs.Places.{is_of, contest_is}
 
 neither : (a b : Option Broken) → or_else a b ≡ None → (a ≡ None) × (b ≡ None)
 neither None b h = (refl, h)
@@ -81,7 +81,7 @@ obeyed contests rules deck h =
       distinct = λ on t u lt inside same.
           let all = ap (λ (x : Bool). cond x (first_broken (broken_equal contests deck) (range_with_len 0 (target_count contests))) None) (sym on) ∙ d.1 in
           let none = each_none (broken_equal contests deck) 0 (target_count contests) t all (omega arith) (omega arith) in
-          let last : u < first_target contests (contest_of contests t + 1) = subst (λ (c : ℕ). u < first_target contests (c + 1)) (sym same) (before_next contests u inside) in
+          let last : u < first_target contests (contest_of contests t + 1) = subst (λ (c : ℕ). u < first_target contests (c + 1)) (sym same) (is_of contests u inside).to in
           let pair = each_none (broken_pair contests deck t) (t + 1) (first_target contests (contest_of contests t + 1) - (t + 1)) u none (omega arith) (omega arith) in
           differ (own_total contests deck t) (own_total contests deck u) (failed (own_total contests deck t == own_total contests deck u) (Equal t u (own_total contests deck t)) pair);
     }
@@ -93,7 +93,8 @@ distinct_by contests rules deck is true on =
     ∙ none_each (broken_equal contests deck) 0 (target_count contests) (λ t le lt.
     none_each (broken_pair contests deck t) (t + 1) (first_target contests (contest_of contests t + 1) - (t + 1)) (λ u above below.
     let within : u < target_count contests = omega (arith, sum_by-take-le (λ (x : Contest). x.targets) contests (contest_of contests t + 1), below, above) in
-    let same = same_contest contests t u (omega arith) (omega arith) in
+    let t_in = is_of contests t (omega arith) in
+    let same = contest_is contests (contest_of contests t) u (record { contest = t_in.contest; from = omega (arith, t_in.from, above); to = omega arith }) in
     fails (own_total contests deck t == own_total contests deck u) (Equal t u (own_total contests deck t))
     (differs (own_total contests deck t) (own_total contests deck u) (is.distinct on t u (omega arith) within (sym same)))))
 

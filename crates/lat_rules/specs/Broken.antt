@@ -1,5 +1,5 @@
 -- Which rule a deck breaks first.
-use Rattle.std.specs.Prelude.{ℕ, ◌+◌, ◌-◌, ◌==◌, ◌&&◌, Bool, List, [], ◌∷◌, length, count_by, nat_lt, if◌then◌else◌, Option, Some, None}
+use Rattle.std.specs.Prelude.{ℕ, ◌+◌, ◌-◌, ◌<◌, ◌==◌, ◌&&◌, Bool, List, [], ◌∷◌, length, count_by, nat_lt, if◌then◌else◌, Option, Some, None}
 use Rattle.std.specs.List.{range_with_len}
 use Rattle.lat_base.specs.declared.contest.Contest.{Contest}
 use Rattle.lat_base.specs.Shape.{target_count, first_target, contest_at, contest_of}
@@ -65,3 +65,10 @@ broken_rule contests rules deck =
     (or_else (first_broken (broken_over contests rules deck) (range_with_len 0 (length contests)))
     (or_else (first_broken (broken_least contests rules deck) (range_with_len 0 (target_count contests)))
     (broken_distinct contests rules deck)))
+
+-- what is broken is named by contests and targets of the style
+abbrev pub IsNamed : List Contest → Broken → Type 0
+IsNamed contests (Blank n) = Unit {0}
+IsNamed contests (Over c n) = c < length contests
+IsNamed contests (Least t n) = t < target_count contests
+IsNamed contests (Equal t u n) = (t < target_count contests) × (u < target_count contests)
