@@ -7,10 +7,11 @@ use Rattle.lat_top.specs.declared.status.Status.TheVariants as s
 use Rattle.lat_top.specs.declared.refusal.Refusal.{Refusal}
 use Rattle.lat_top.specs.declared.refusal.Refusal.TheVariants as r
 use Rattle.lat_top.specs.Words.{Plan}
-use Rattle.lat_top.specs.AskedStyle.{asked_style}
+use Rattle.lat_top.specs.AskedStyle.{planned_style}
 use Rattle.lat_top.specs.Outside.{Outside}
 use Rattle.lat_top.specs.Writing.{RoseSince, WriteFails}
-use Rattle.lat_top.specs.PlanEnds.{PlanEnds, Refused, definition_limit}
+use Rattle.lat_top.specs.Reading.{file_limit}
+use Rattle.lat_top.specs.PlanEnds.{PlanEnds, Refused}
 use Rattle.lat_top.specs.Complete.{HasFile, CanPlan, IsPlanned}
 
 rose_before : (before after : ℕ) → RoseSince before after → Rose before after
@@ -40,7 +41,7 @@ not_longer (Some fs) name bytes limit has within longer =
 not_refused : (plan : Plan) (refusal : Refusal) (before after : Outside) → CanPlan plan before after → ¬ Refused plan refusal before after
 not_refused plan refusal before after can refused =
     let same = same_file before.files plan.definition can.bytes refused.bytes can.file refused.read.whole in
-    cc (can.asked, refused.why, ap (asked_style plan) same)
+    cc (can.asked, refused.why, ap (planned_style plan) same)
 
 pub planned : (plan : Plan) (status : Status) (before after : Outside) → PlanEnds plan status before after → CanPlan plan before after → IsPlanned status
 planned plan s.Done before after ends can = inl refl
@@ -52,7 +53,10 @@ planned plan s.ReadFault before after ends can = elim ends.cause [
   | inl rose ↦ absurd (can.no_shelf_fault rose)
   | inr missing ↦ absurd (not_missing before.files plan.definition can.bytes can.file missing)
 ]
-planned plan (s.TooLong n) before after ends can = absurd (not_longer before.files plan.definition can.bytes definition_limit can.file can.within ends.longer)
+planned plan (s.TooLong n) before after ends can = absurd (not_longer before.files plan.definition can.bytes file_limit can.file can.within ends.is.longer)
 planned plan (s.Definition fault) before after ends can = absurd (not_refused plan (r.Definition fault) before after can ends)
 planned plan s.NoStyle before after ends can = absurd (not_refused plan r.NoStyle before after can ends)
 planned plan (s.TooWide n) before after ends can = absurd (not_refused plan (r.TooWide n) before after can ends)
+planned plan (s.Spent from best) before after ends can = absurd ends
+planned plan (s.Csv fault) before after ends can = absurd ends
+planned plan s.Evaded before after ends can = absurd ends

@@ -1,5 +1,5 @@
 -- What a call of `plan` leaves, from what its parts leave.
-use Rattle.std.proofs.Common.{◌≡◌, ◌≤◌, ◌++◌, ℕ, List, Option, ap, ◌∙◌, subst, inl, inr, arith, take, Err, length, ◌<◌}
+use Rattle.std.proofs.Common.{◌≡◌, ◌≤◌, ◌++◌, ℕ, List, Option, ap, ◌∙◌, sym, subst, inl, inr, arith, take, Err, length, ◌<◌}
 use Rattle.std.specs.Prelude.{option_map}
 use Rattle.lat_shelf.specs.Shelf.{Files, SameBut, Rose}
 use Rattle.lat_shelf.specs.Sink.{AddsFront}
@@ -12,9 +12,11 @@ use Rattle.election_json.specs.Definition.{DefinitionValue, IsDefinition, no_sty
 use Rattle.lat_top.specs.Words.{Plan}
 use Rattle.lat_top.specs.Outside.{Outside, Untouched, HasRead}
 use Rattle.lat_top.specs.Writing.{files_after, name_at, Wrote, PutFailed, GaveFront, PutSome, WriteFails, WriteStops}
-use Rattle.lat_top.specs.AskedStyle.{asked_style, Finds}
-use Rattle.lat_top.specs.PlanAnswer.{Texts, IsAnswer}
-use Rattle.lat_top.specs.PlanEnds.{PlanEnds, status_of, definition_limit}
+use Rattle.lat_top.specs.AskedStyle.{planned_style, Finds}
+use Rattle.lat_top.specs.Written.{Texts, WritesAs}
+use Rattle.lat_top.specs.PlanAnswer.{IsAnswer}
+use Rattle.lat_top.specs.Reading.{file_limit, ReadEnds}
+use Rattle.lat_top.specs.PlanEnds.{PlanEnds, status_of}
 
 -- the names of a style fit its shape
 pub style_fits : (definition : DefinitionValue) (i : ℕ) → IsDefinition definition → i < length definition.styles → NamesFit (style_at definition i).names.contests (style_at definition i).shape
@@ -57,7 +59,7 @@ some_since puts before mid after since h = record {
 }
 
 -- all was written
-pub ends_written : (plan : Plan) (status : Status) (bytes : List ℕ) (texts : Texts) (before mid after : Outside) → HasRead before plan.definition definition_limit bytes
+pub ends_written : (plan : Plan) (status : Status) (bytes : List ℕ) (texts : Texts) (before mid after : Outside) → HasRead before plan.definition file_limit bytes
     → IsAnswer plan bytes status texts → Since before mid → Wrote texts.puts texts.summary mid after → PlanEnds plan status before after
 ends_written plan s.Done bytes texts before mid after read answer since h =
     record { bytes = bytes; texts = texts; read = read; answer = answer; left = wrote_since texts.puts texts.summary before mid after since h }
@@ -71,9 +73,12 @@ ends_written plan (s.Definition fault) bytes texts before mid after read answer 
 ends_written plan s.NoStyle bytes texts before mid after read answer since h = absurd answer
 ends_written plan s.WriteFault bytes texts before mid after read answer since h = absurd answer
 ends_written plan (s.TooWide n) bytes texts before mid after read answer since h = absurd answer
+ends_written plan (s.Spent from best) bytes texts before mid after read answer since h = absurd answer
+ends_written plan (s.Csv fault) bytes texts before mid after read answer since h = absurd answer
+ends_written plan s.Evaded bytes texts before mid after read answer since h = absurd answer
 
 -- a put or a give failed
-pub ends_failed : (plan : Plan) (status : Status) (bytes : List ℕ) (texts : Texts) (before mid after : Outside) → HasRead before plan.definition definition_limit bytes
+pub ends_failed : (plan : Plan) (status : Status) (bytes : List ℕ) (texts : Texts) (before mid after : Outside) → HasRead before plan.definition file_limit bytes
     → IsAnswer plan bytes status texts → Since before mid → WriteFails texts.puts texts.summary mid after → PlanEnds plan s.WriteFault before after
 ends_failed plan status bytes texts before mid after read answer since h = (
   status,
@@ -90,7 +95,7 @@ ends_failed plan status bytes texts before mid after read answer since h = (
 )
 
 -- memory was wanting at a put or a give
-pub ends_stopped : (plan : Plan) (status : Status) (bytes : List ℕ) (texts : Texts) (before mid after : Outside) → HasRead before plan.definition definition_limit bytes
+pub ends_stopped : (plan : Plan) (status : Status) (bytes : List ℕ) (texts : Texts) (before mid after : Outside) → HasRead before plan.definition file_limit bytes
     → IsAnswer plan bytes status texts → Since before mid → WriteStops texts.puts texts.summary mid after → PlanEnds plan s.Memory before after
 ends_stopped plan status bytes texts before mid after read answer since h = inr (
   status,
@@ -107,9 +112,38 @@ ends_stopped plan status bytes texts before mid after read answer since h = inr 
 )
 
 -- the definition was read and refused
-pub ends_refused : (plan : Plan) (refusal : Refusal) (bytes : List ℕ) (before after : Outside) → HasRead before plan.definition definition_limit bytes
-    → Finds (Err refusal) (asked_style plan bytes) → Untouched before after → PlanEnds plan (status_of refusal) before after
+pub ends_refused : (plan : Plan) (refusal : Refusal) (bytes : List ℕ) (before after : Outside) → HasRead before plan.definition file_limit bytes
+    → Finds (Err refusal) (planned_style plan bytes) → Untouched before after → PlanEnds plan (status_of refusal) before after
 ends_refused plan r.Memory bytes before after read why same = inl same
 ends_refused plan (r.Definition fault) bytes before after read why same = record { bytes = bytes; read = read; why = why; same = same }
 ends_refused plan r.NoStyle bytes before after read why same = record { bytes = bytes; read = read; why = why; same = same }
 ends_refused plan (r.TooWide n) bytes before after read why same = record { bytes = bytes; read = read; why = why; same = same }
+ends_refused plan (r.Csv fault) bytes before after read why same = absurd why
+
+-- the definition was not read
+pub ends_unread : (plan : Plan) (status : Status) (before after : Outside) → ReadEnds before.files plan.definition before.shelf_faults after.shelf_faults status
+    → Untouched before after → PlanEnds plan status before after
+ends_unread plan s.ReadFault before after why same = record { cause = why; same = same }
+ends_unread plan (s.TooLong n) before after why same = record { is = why; same = same }
+ends_unread plan s.Memory before after why same = inl same
+ends_unread plan s.Done before after why same = absurd why
+ends_unread plan (s.Words fault) before after why same = absurd why
+ends_unread plan (s.Definition fault) before after why same = absurd why
+ends_unread plan s.NoStyle before after why same = absurd why
+ends_unread plan s.WriteFault before after why same = absurd why
+ends_unread plan s.NoDeck before after why same = absurd why
+ends_unread plan (s.TooWide n) before after why same = absurd why
+ends_unread plan (s.Spent from best) before after why same = absurd why
+ends_unread plan (s.Csv fault) before after why same = absurd why
+ends_unread plan s.Evaded before after why same = absurd why
+
+-- the plan was written
+pub ends_by : (plan : Plan) (planned status : Status) (bytes : List ℕ) (texts : Texts) (before mid after : Outside) → HasRead before plan.definition file_limit bytes
+    → IsAnswer plan bytes planned texts → Since before mid → WritesAs planned texts mid after status → PlanEnds plan status before after
+ends_by plan planned status bytes texts before mid after read answer since h = elim h [
+  | inl all ↦ subst (λ (x : Status). PlanEnds plan x before after) (sym all.0) (ends_written plan planned bytes texts before mid after read answer since all.1)
+  | inr part ↦ elim part [
+    | inl failed ↦ subst (λ (x : Status). PlanEnds plan x before after) (sym failed.0) (ends_failed plan planned bytes texts before mid after read answer since failed.1)
+    | inr stopped ↦ subst (λ (x : Status). PlanEnds plan x before after) (sym stopped.0) (ends_stopped plan planned bytes texts before mid after read answer since stopped.1)
+  ]
+]

@@ -1,4 +1,4 @@
--- The style that a plan asks for, from the bytes of its definition, or why there is none to plan.
+-- The style that is asked for, from the bytes of a definition, or why there is none.
 use Rattle.std.specs.Prelude.{◌≡◌, ◌*◌, ◌||◌, ℕ, List, position, nat_lt, if◌then◌else◌, Option, Some, None, Result, Ok, Err, ⊤}
 use Rattle.std.specs.Str.{bytes_eq}
 use Rattle.lat_base.specs.Shape.{target_count}
@@ -17,23 +17,31 @@ style_place definition id = position (λ s. bytes_eq id s.names.style) definitio
 abbrev pub ruled_style : DefinitionValue → ℕ → AskedStyle
 ruled_style definition i = record { names = (style_at definition i).names; shape = (style_at definition i).shape; rules = definition.rules }
 
+abbrev pub style_by_place : DefinitionValue → Option ℕ → Result AskedStyle Refusal
+style_by_place definition None = Err r.NoStyle
+style_by_place definition (Some i) = Ok (ruled_style definition i)
+
+abbrev pub style_in : List ℕ → Result DefinitionValue DefFault → Result AskedStyle Refusal
+style_in id (Err fault) = Err (r.Definition fault)
+style_in id (Ok definition) = style_by_place definition (style_place definition id)
+
+-- the style of that id, or the first refusal: the definition's first fault, then that no style has the id
+abbrev pub asked_style : List ℕ → List ℕ → Result AskedStyle Refusal
+asked_style id bytes = style_in id (definition_of bytes)
+
 -- a style that is small enough to try every deck up to the size cap
 abbrev pub narrow_style : ℕ → AskedStyle → Result AskedStyle Refusal
 narrow_style max style =
     if nat_lt 16 (max * target_count style.shape) || nat_lt 4 (target_count style.shape)
     then Err (r.TooWide (max * target_count style.shape)) else Ok style
 
-abbrev pub style_by_place : ℕ → DefinitionValue → Option ℕ → Result AskedStyle Refusal
-style_by_place max definition None = Err r.NoStyle
-style_by_place max definition (Some i) = narrow_style max (ruled_style definition i)
+abbrev pub narrow : ℕ → Result AskedStyle Refusal → Result AskedStyle Refusal
+narrow max (Err refusal) = Err refusal
+narrow max (Ok style) = narrow_style max style
 
-abbrev pub style_in : Plan → Result DefinitionValue DefFault → Result AskedStyle Refusal
-style_in plan (Err fault) = Err (r.Definition fault)
-style_in plan (Ok definition) = style_by_place plan.max definition (style_place definition plan.style)
-
--- the style that the plan asks for, or the first refusal: the definition, then the style, then its width
-abbrev pub asked_style : Plan → List ℕ → Result AskedStyle Refusal
-asked_style plan bytes = style_in plan (definition_of bytes)
+-- the style that a plan asks for, or the first refusal: that it is too wide comes last
+abbrev pub planned_style : Plan → List ℕ → Result AskedStyle Refusal
+planned_style plan bytes = narrow plan.max (asked_style plan.style bytes)
 
 -- what a call gave is what is said, unless memory ran out
 abbrev pub Finds : Result AskedStyle Refusal → Result AskedStyle Refusal → Type 0
@@ -42,3 +50,4 @@ Finds (Err r.Memory) said = ⊤
 Finds (Err (r.Definition fault)) said = said ≡ Err (r.Definition fault)
 Finds (Err r.NoStyle) said = said ≡ Err r.NoStyle
 Finds (Err (r.TooWide n)) said = said ≡ Err (r.TooWide n)
+Finds (Err (r.Csv fault)) said = ⊥

@@ -6,9 +6,9 @@ use Rattle.lat_top.specs.declared.status.Status.{Status}
 use Rattle.lat_top.specs.declared.status.Status.TheVariants as s
 use Rattle.lat_top.specs.declared.asked_style.AskedStyle.{AskedStyle}
 use Rattle.lat_top.specs.Words.{Plan}
-use Rattle.lat_top.specs.AskedStyle.{asked_style}
+use Rattle.lat_top.specs.AskedStyle.{planned_style}
 use Rattle.lat_top.specs.Outside.{Outside}
-use Rattle.lat_top.specs.PlanEnds.{definition_limit}
+use Rattle.lat_top.specs.Reading.{file_limit}
 
 -- the files are told, and the named one has these bytes
 abbrev pub HasFile : Option Files → List ℕ → List ℕ → Type 0
@@ -20,8 +20,8 @@ pub record CanPlan (plan : Plan) (before after : Outside) : Type 0 where
   pub bytes : List ℕ
   pub style : AskedStyle
   pub file : HasFile before.files plan.definition bytes
-  pub within : length bytes ≤ definition_limit
-  pub asked : asked_style plan bytes ≡ Ok style
+  pub within : length bytes ≤ file_limit
+  pub asked : planned_style plan bytes ≡ Ok style
   pub no_shelf_fault : ¬ Rose before.shelf_faults after.shelf_faults
   pub no_sink_fault : ¬ Rose before.sink_faults after.sink_faults
 

@@ -1,11 +1,13 @@
 pub mod Words
 pub mod Asked
 pub mod Outside
+pub mod Reading
 pub mod AskedStyle
 pub mod Summary
 pub mod StatusLine
 pub mod Trying
 pub mod Writing
+pub mod Written
 pub mod PlanAnswer
 pub mod PlanEnds
 pub mod Complete

@@ -5,27 +5,18 @@ use Rattle.lat_base.specs.Goodness.{IsGood, NoGoodBelow}
 use Rattle.deck_text.specs.DeckText.{deck_text}
 use Rattle.deck_text.specs.TotalsText.{totals_text}
 use Rattle.lat_top.specs.declared.asked_style.AskedStyle.{AskedStyle}
-use Rattle.lat_top.specs.declared.output.Output.{Output}
 use Rattle.lat_top.specs.declared.status.Status.{Status}
 use Rattle.lat_top.specs.declared.status.Status.TheVariants as s
 use Rattle.lat_top.specs.Words.{Plan}
-use Rattle.lat_top.specs.AskedStyle.{asked_style}
+use Rattle.lat_top.specs.AskedStyle.{planned_style}
 use Rattle.lat_top.specs.Summary.{least_summary, none_summary}
-use Rattle.lat_top.specs.Writing.{entries}
+use Rattle.lat_top.specs.Written.{Texts}
 
 abbrev pub deck_name : List ℕ → List ℕ
 deck_name prefix = prefix ++ codes ".deck.csv"
 
 abbrev pub totals_name : List ℕ → List ℕ
 totals_name prefix = prefix ++ codes ".totals.csv"
-
--- what a plan writes: files in order, and a summary
-pub record Texts : Type 0 where
-  pub puts : List (List ℕ × List ℕ)
-  pub summary : List ℕ
-
-abbrev pub texts_of : Output → Texts
-texts_of output = record { puts = entries output.puts.items; summary = string_bytes output.summary }
 
 -- the files of a deck: its ballots, and its totals
 abbrev pub deck_files : List ℕ → AskedStyle → List (List Bool) → List (List ℕ × List ℕ)
@@ -36,7 +27,7 @@ deck_files prefix style deck =
 pub record IsLeastPlan (plan : Plan) (bytes : List ℕ) (texts : Texts) : Type 0 where
   pub style : AskedStyle
   pub deck : List (List Bool)
-  pub asked : asked_style plan bytes ≡ Ok style
+  pub asked : planned_style plan bytes ≡ Ok style
   pub good : IsGood style.shape style.rules deck
   pub least : NoGoodBelow style.shape style.rules (length deck)
   pub within : length deck ≤ plan.max
@@ -46,7 +37,7 @@ pub record IsLeastPlan (plan : Plan) (bytes : List ℕ) (texts : Texts) : Type 0
 -- no file, and the summary that no good deck has at most as many ballots as the size cap
 pub record IsEmptyPlan (plan : Plan) (bytes : List ℕ) (texts : Texts) : Type 0 where
   pub style : AskedStyle
-  pub asked : asked_style plan bytes ≡ Ok style
+  pub asked : planned_style plan bytes ≡ Ok style
   pub none : NoGoodBelow style.shape style.rules (plan.max + 1)
   pub puts : texts.puts ≡ []
   pub summary : texts.summary ≡ none_summary plan.style (target_count style.shape) plan.max

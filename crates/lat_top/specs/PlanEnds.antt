@@ -1,45 +1,30 @@
 -- What a call of `plan` leaves, by its status.
 use Rattle.std.specs.Prelude.{◌≡◌, ◌⊎◌, ◌+◌, ℕ, List, Err}
-use Rattle.lat_shelf.specs.Shelf.{Rose, IsMissing}
-use Rattle.lat_shelf.specs.Read.{IsLonger}
 use Rattle.lat_top.specs.declared.status.Status.{Status}
 use Rattle.lat_top.specs.declared.status.Status.TheVariants as s
 use Rattle.lat_top.specs.declared.refusal.Refusal.{Refusal}
 use Rattle.lat_top.specs.declared.refusal.Refusal.TheVariants as r
 use Rattle.lat_top.specs.Words.{Plan}
 use Rattle.lat_top.specs.Outside.{Outside, Untouched, HasRead}
+use Rattle.lat_top.specs.Reading.{file_limit, Unread, Longer}
 use Rattle.lat_top.specs.Writing.{Wrote, WriteFails, WriteStops}
-use Rattle.lat_top.specs.AskedStyle.{asked_style}
-use Rattle.lat_top.specs.PlanAnswer.{Texts, IsAnswer}
-
--- how many bytes a definition may have
-abbrev pub definition_limit : ℕ
-definition_limit = 8388608
+use Rattle.lat_top.specs.AskedStyle.{planned_style}
+use Rattle.lat_top.specs.Written.{Texts}
+use Rattle.lat_top.specs.PlanAnswer.{IsAnswer}
 
 -- the definition was read, and its plan written
 pub record Answered (plan : Plan) (status : Status) (before : Outside) (Left : Texts → Type 0) : Type 0 where
   pub bytes : List ℕ
   pub texts : Texts
-  pub read : HasRead before plan.definition definition_limit bytes
+  pub read : HasRead before plan.definition file_limit bytes
   pub answer : IsAnswer plan bytes status texts
   pub left : Left texts
 
 -- the definition was read, and nothing planned for the first refusal
 pub record Refused (plan : Plan) (refusal : Refusal) (before after : Outside) : Type 0 where
   pub bytes : List ℕ
-  pub read : HasRead before plan.definition definition_limit bytes
-  pub why : asked_style plan bytes ≡ Err refusal
-  pub same : Untouched before after
-
--- the file was not there, or could not be read
-pub record Unread (plan : Plan) (before after : Outside) : Type 0 where
-  pub cause : Rose before.shelf_faults after.shelf_faults ⊎ IsMissing before.files plan.definition
-  pub same : Untouched before after
-
--- the file has more bytes than the limit, and one more than the limit was taken
-pub record Longer (plan : Plan) (n : ℕ) (before after : Outside) : Type 0 where
-  pub taken : n ≡ definition_limit + 1
-  pub longer : IsLonger before.files plan.definition definition_limit
+  pub read : HasRead before plan.definition file_limit bytes
+  pub why : planned_style plan bytes ≡ Err refusal
   pub same : Untouched before after
 
 -- what a call of `plan` leaves
@@ -51,11 +36,14 @@ PlanEnds plan s.WriteFault before after =
 PlanEnds plan s.Memory before after =
     Untouched before after ⊎ ((status : Status) × Answered plan status before (λ texts. WriteStops texts.puts texts.summary before after))
 PlanEnds plan (s.Words fault) before after = ⊥
-PlanEnds plan s.ReadFault before after = Unread plan before after
-PlanEnds plan (s.TooLong n) before after = Longer plan n before after
+PlanEnds plan s.ReadFault before after = Unread plan.definition before after
+PlanEnds plan (s.TooLong n) before after = Longer plan.definition n before after
 PlanEnds plan (s.Definition fault) before after = Refused plan (r.Definition fault) before after
 PlanEnds plan s.NoStyle before after = Refused plan r.NoStyle before after
 PlanEnds plan (s.TooWide n) before after = Refused plan (r.TooWide n) before after
+PlanEnds plan (s.Spent from best) before after = ⊥
+PlanEnds plan (s.Csv fault) before after = ⊥
+PlanEnds plan s.Evaded before after = ⊥
 
 -- the status of a refusal
 abbrev pub status_of : Refusal → Status
@@ -63,3 +51,4 @@ status_of r.Memory = s.Memory
 status_of (r.Definition fault) = s.Definition fault
 status_of r.NoStyle = s.NoStyle
 status_of (r.TooWide n) = s.TooWide n
+status_of (r.Csv fault) = s.Csv fault

@@ -2,14 +2,15 @@ ghost use Rattle.std.specs.Prelude.{◌≡◌, ◌+◌, ◌∷◌, [], ℕ, List
 ghost use Rattle.lat_base.specs.Shape.{target_count};
 ghost use Rattle.lat_base.specs.Names.{NamesFit};
 ghost use Rattle.lat_top.specs.Asked.{kept};
-ghost use Rattle.lat_top.specs.AskedStyle.{asked_style, Finds};
+ghost use Rattle.lat_top.specs.AskedStyle.{planned_style, Finds};
 ghost use Rattle.lat_top.specs.Summary.{least_summary, none_summary};
-ghost use Rattle.lat_top.specs.PlanAnswer.{IsAnswer, texts_of, deck_name, totals_name, deck_files};
+ghost use Rattle.lat_top.specs.PlanAnswer.{IsAnswer, deck_name, totals_name, deck_files};
 ghost use Rattle.lat_top.specs.Writing.{entry, entries};
+ghost use Rattle.lat_top.specs.Written.{texts_of};
 
 use crate::Status;
 use crate::asked_style::AskedStyle;
-use crate::finding::find_style;
+use crate::finding::find_planned;
 use crate::output::Output;
 use crate::plain_search::least_deck;
 use crate::plan_words::PlanWords;
@@ -71,7 +72,7 @@ fn found(
     Ok(Output {
         status: Status::Done,
         puts: deck_files(alloc, asked.prefix, style, deck)?,
-        summary: least_summary(alloc, asked.style, style.shape.targets(), deck.ballots())?,
+        summary: least_summary(alloc, asked.style, style.shape.targets(), deck.ballots())?.into_bytes(),
     })
 }
 
@@ -88,16 +89,16 @@ fn none_found(
     Ok(Output {
         status: Status::NoDeck,
         puts: Vec::new(alloc),
-        summary: none_summary(alloc, asked.style, style.shape.targets(), asked.max)?,
+        summary: none_summary(alloc, asked.style, style.shape.targets(), asked.max)?.into_bytes(),
     })
 }
 
 /// What `plan` writes, from the bytes of the definition, or the first refusal.
 pub fn plan(alloc: Global, definition: &[u8], asked: &PlanWords<'_>) -> Result<Output, Refusal>
     ensures answer { IfOk result (λ output. IsAnswer (kept asked.now) definition.now output.status (texts_of output)) }
-    ensures refused { IfErr result (λ refusal. Finds (Err refusal) (asked_style (kept asked.now) definition.now)) }
+    ensures refused { IfErr result (λ refusal. Finds (Err refusal) (planned_style (kept asked.now) definition.now)) }
 {
-    let style = find_style(alloc, definition, asked)?;
+    let style = find_planned(alloc, definition, asked)?;
     match least_deck(alloc, &style.shape, &style.rules, asked.max)? {
         Some(deck) => Ok(found(alloc, asked, &style, &deck)?),
         None => Ok(none_found(alloc, asked, &style)?),

@@ -2,7 +2,7 @@ ghost use Rattle.std.specs.Prelude.{◌≡◌, ◌<◌, ◌≤◌, ℕ, length, 
 ghost use Rattle.lat_base.specs.Names.{NamesFit};
 ghost use Rattle.election_json.specs.Definition.{DefinitionValue};
 ghost use Rattle.lat_top.specs.Asked.{kept};
-ghost use Rattle.lat_top.specs.AskedStyle.{asked_style, ruled_style, narrow_style, Finds};
+ghost use Rattle.lat_top.specs.AskedStyle.{asked_style, planned_style, ruled_style, narrow_style, Finds};
 
 use crate::asked_style::AskedStyle;
 use crate::plan_words::PlanWords;
@@ -25,6 +25,26 @@ fn ruled_style(alloc: Global, definition: &Definition, i: u32) -> Result<AskedSt
     })
 }
 
+/// The style of that id, from the bytes of a definition, or the first refusal: the definition's first
+/// fault, then that no style has the id.
+pub fn find_style(alloc: Global, bytes: &[u8], id: &str) -> Result<AskedStyle, Refusal>
+    ensures style { Finds result (asked_style id.now bytes.now) }
+    ensures fits { IfOk result (λ style. NamesFit style.names.contests style.shape) }
+{
+    let definition = match read_definition(alloc, bytes) {
+        Ok(definition) => definition,
+        Err(DefFail::Fault(fault)) => return Err(Refusal::Definition(fault)),
+        Err(DefFail::Memory) => return Err(Refusal::Memory),
+    };
+    let Some(i) = definition.style(id) else {
+        return Err(Refusal::NoStyle);
+    };
+    match ruled_style(alloc, &definition, i) {
+        Ok(style) => Ok(style),
+        Err(_) => Err(Refusal::Memory),
+    }
+}
+
 // The style, where it is small enough to try every deck up to the size cap.
 fn narrow_style(style: AskedStyle, max: u16) -> Result<AskedStyle, Refusal>
     requires { max ≤ 1024 }
@@ -39,22 +59,13 @@ fn narrow_style(style: AskedStyle, max: u16) -> Result<AskedStyle, Refusal>
     Ok(style)
 }
 
-/// The style that the words of a plan ask for, from the bytes of the definition, or the first
-/// refusal: the definition's first fault, then a style that isn't there, then one that is too wide.
-pub fn find_style(alloc: Global, bytes: &[u8], asked: &PlanWords<'_>) -> Result<AskedStyle, Refusal>
-    ensures style { Finds result (asked_style (kept asked.now) bytes.now) }
+/// The style that the words of a plan ask for, or the first refusal; that it is too wide comes last.
+pub fn find_planned(alloc: Global, bytes: &[u8], asked: &PlanWords<'_>) -> Result<AskedStyle, Refusal>
+    ensures style { Finds result (planned_style (kept asked.now) bytes.now) }
     ensures fits { IfOk result (λ style. NamesFit style.names.contests style.shape) }
 {
-    let definition = match read_definition(alloc, bytes) {
-        Ok(definition) => definition,
-        Err(DefFail::Fault(fault)) => return Err(Refusal::Definition(fault)),
-        Err(DefFail::Memory) => return Err(Refusal::Memory),
-    };
-    let Some(i) = definition.style(asked.style) else {
-        return Err(Refusal::NoStyle);
-    };
-    match ruled_style(alloc, &definition, i) {
+    match find_style(alloc, bytes, asked.style) {
         Ok(style) => narrow_style(style, asked.max),
-        Err(_) => Err(Refusal::Memory),
+        Err(refusal) => Err(refusal),
     }
 }

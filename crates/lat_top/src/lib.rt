@@ -3,17 +3,20 @@
 
 mod answer;
 mod asked_style;
+mod command;
 mod finding;
 mod output;
 mod plain_robust;
 mod plain_search;
 mod plan_words;
 mod put;
+mod reading;
 mod refusal;
 mod status;
 mod status_text;
 mod summary;
 mod top;
+mod verify_words;
 mod word_fault;
 mod words;
 mod write;

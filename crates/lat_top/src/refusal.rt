@@ -1,7 +1,8 @@
-use election_json::{DefFail, DefFault};
+use deck_text::CsvFault;
+use election_json::DefFault;
 use std::alloc::{AllocError, AllocFailed};
 
-/// Why there is no plan.
+/// Why a command has no answer.
 #[derive(Clone, Copy, Debug, PartialEq, Eq)]
 pub enum Refusal {
     Memory,
@@ -10,6 +11,8 @@ pub enum Refusal {
     NoStyle,
     /// The size cap times the number of targets.
     TooWide(u32),
+    /// The first fault of the deck's table.
+    Csv(CsvFault),
 }
 
 impl From<AllocError> for Refusal {

@@ -193,7 +193,7 @@ fn refuses_words(rt: HostRuntime) -> Result<(), Fail> {
     let table = [
         (0, "", 0, WordFault::NoCommand),
         (6, "--help", 0, WordFault::UnknownCommand),
-        (6, "verify", 0, WordFault::UnknownCommand),
+        (6, "verify", 0, WordFault::WrongCount(6)),
         (2, "d.json", 1, WordFault::WrongCount(2)),
         (6, "", 1, WordFault::BadName(1)),
         (6, "a b", 2, WordFault::BadId(2)),

@@ -1,6 +1,6 @@
 ghost use Rattle.std.specs.Prelude.{◌≡◌, ◌≤◌, ◌↔◌, Ok, Err};
 ghost use Rattle.lat_top.specs.declared.word_fault.WordFault.{WordFault};
-ghost use Rattle.lat_top.specs.Words.{Plan, texts, asked_of};
+ghost use Rattle.lat_top.specs.Words.{Plan, Plans, texts, asked_of};
 ghost use Rattle.lat_top.specs.Asked.{kept};
 ghost use Rattle.lat_top.specs.Outside.{Outside, Untouched};
 ghost use Rattle.lat_top.specs.PlanEnds.{PlanEnds, status_of};
@@ -8,16 +8,14 @@ ghost use Rattle.lat_top.specs.Complete.{CanPlan, IsPlanned};
 
 use crate::Status;
 use crate::answer::plan;
-use crate::output::Output;
+use crate::command::Command;
 use crate::plan_words::PlanWords;
+use crate::reading::read_file;
 use crate::refusal::Refusal;
 use crate::words::read_words;
-use crate::write::write_all;
-use lat_shelf::{OutFail, ReadFail, Shelf, Sink, read_whole};
+use crate::write::write_output;
+use lat_shelf::{Shelf, Sink};
 use std::alloc::Global;
-
-// How many bytes a definition may have.
-const DEFINITION_LIMIT: u32 = 8_388_608;
 
 fn status_of(refusal: Refusal) -> Status
     ensures { result ≡ status_of refusal }
@@ -27,10 +25,12 @@ fn status_of(refusal: Refusal) -> Status
         Refusal::Definition(fault) => Status::Definition(fault),
         Refusal::NoStyle => Status::NoStyle,
         Refusal::TooWide(width) => Status::TooWide(width),
+        Refusal::Csv(fault) => Status::Csv(fault),
     }
 }
 
 // Plans the style of the definition that the words name, and writes the plan.
+#[tactic(auto, using(crate::proofs::PlanFacts::ends_unread))]
 fn run_plan<H: Shelf, K: Sink>(
     alloc: Global,
     asked: &PlanWords<'_>,
@@ -41,24 +41,12 @@ fn run_plan<H: Shelf, K: Sink>(
         (record { files = H.files shelf.old; given = K.given out.old; shelf_faults = H.faults shelf.old; sink_faults = K.faults out.old })
         (record { files = H.files shelf.new; given = K.given out.new; shelf_faults = H.faults shelf.new; sink_faults = K.faults out.new }) }
 {
-    let definition = match read_whole(alloc, shelf, asked.definition, DEFINITION_LIMIT) {
+    let definition = match read_file(alloc, shelf, asked.definition) {
         Ok(definition) => definition,
-        Err(ReadFail::Fault) => return Status::ReadFault,
-        Err(ReadFail::TooLong(n)) => return Status::TooLong(n),
-        Err(ReadFail::Memory) => return Status::Memory,
+        Err(status) => return status,
     };
     match plan(alloc, definition.as_slice(), asked) {
-        Ok(
-            Output {
-                status,
-                puts,
-                summary,
-            },
-        ) => match write_all(shelf, out, &puts, summary.as_bytes()) {
-            Ok(()) => status,
-            Err(OutFail::Failed) => Status::WriteFault,
-            Err(OutFail::Memory) => Status::Memory,
-        },
+        Ok(output) => write_output(shelf, out, &output),
         Err(refusal) => status_of(refusal),
     }
 }
@@ -74,18 +62,19 @@ pub fn run<H: Shelf, K: Sink>(alloc: Global, words: &[String], shelf: &mut H, ou
         (record { files = H.files shelf.new; given = K.given out.new; shelf_faults = H.faults shelf.new; sink_faults = K.faults out.new }) }
 
     // What a plan leaves, by the status.
-    ensures plan { (plan : Plan) → asked_of (texts words.now) ≡ Ok plan → PlanEnds plan result
+    ensures plan { (plan : Plan) → asked_of (texts words.now) ≡ Ok (Plans plan) → PlanEnds plan result
         (record { files = H.files shelf.old; given = K.given out.old; shelf_faults = H.faults shelf.old; sink_faults = K.faults out.old })
         (record { files = H.files shelf.new; given = K.given out.new; shelf_faults = H.faults shelf.new; sink_faults = K.faults out.new }) }
 
     // A plan that can be made is made.
-    ensures complete { (plan : Plan) → asked_of (texts words.now) ≡ Ok plan → CanPlan plan
+    ensures complete { (plan : Plan) → asked_of (texts words.now) ≡ Ok (Plans plan) → CanPlan plan
         (record { files = H.files shelf.old; given = K.given out.old; shelf_faults = H.faults shelf.old; sink_faults = K.faults out.old })
         (record { files = H.files shelf.new; given = K.given out.new; shelf_faults = H.faults shelf.new; sink_faults = K.faults out.new })
         → IsPlanned result }
 {
     match read_words(words) {
-        Ok(asked) => run_plan(alloc, &asked, shelf, out),
+        Ok(Command::Plan(asked)) => run_plan(alloc, &asked, shelf, out),
+        Ok(Command::Verify(_)) => Status::Memory,
         Err(fault) => Status::Words(fault),
     }
 }

@@ -1,7 +1,10 @@
 ghost use Rattle.std.specs.Prelude.{◌≤◌, ◌≡◌, OnOk, IsErrOf};
 ghost use Rattle.lat_top.specs.Outside.{Outside};
+ghost use Rattle.lat_top.specs.Written.{WritesAs, texts_of};
 ghost use Rattle.lat_top.specs.Writing.{entries, files_after, FailedAt, StoppedAt, RoseSince, Wrote, WriteFails, WriteStops};
 
+use crate::Status;
+use crate::output::Output;
 use crate::put::Put;
 use lat_shelf::{OutFail, Shelf, Sink};
 
@@ -21,8 +24,8 @@ fn put_all<H: Shelf>(shelf: &mut H, puts: &[Put]) -> Result<(), OutFail>
     Ok(())
 }
 
-/// Puts files in order and then gives a summary, up to the first call that fails.
-pub fn write_all<H: Shelf, K: Sink>(
+// Puts files in order and then gives a summary, up to the first call that fails.
+fn write_all<H: Shelf, K: Sink>(
     shelf: &mut H,
     out: &mut K,
     puts: &[Put],
@@ -41,5 +44,20 @@ pub fn write_all<H: Shelf, K: Sink>(
     match put_all(shelf, puts) {
         Ok(()) => out.give(summary),
         Err(fail) => Err(fail),
+    }
+}
+
+/// Writes what a command answered: puts its files in order and then gives its summary, up to the first
+/// call that fails. The status is the answer's where all was written.
+pub fn write_output<H: Shelf, K: Sink>(shelf: &mut H, out: &mut K, output: &Output) -> Status
+    ensures { WritesAs output.now.status (texts_of output.now)
+        (record { files = H.files shelf.old; given = K.given out.old; shelf_faults = H.faults shelf.old; sink_faults = K.faults out.old })
+        (record { files = H.files shelf.new; given = K.given out.new; shelf_faults = H.faults shelf.new; sink_faults = K.faults out.new })
+        result }
+{
+    match write_all(shelf, out, &output.puts, &output.summary) {
+        Ok(()) => output.status,
+        Err(OutFail::Failed) => Status::WriteFault,
+        Err(OutFail::Memory) => Status::Memory,
     }
 }
