@@ -13,11 +13,9 @@ impl Partial {
         ensures { result ≡ sure_votes self.now t }
     {
         let c = self.shape.contest_of(t);
-        let mut votes = 0;
+        let mut votes: u16 = 0;
         for row in &self.marks {
-            if surely_votes_for(&self.shape, row.as_slice(), t, c) {
-                votes += 1;
-            }
+            votes += u16::from(surely_votes_for(&self.shape, row.as_slice(), t, c));
         }
         votes
     }
@@ -28,11 +26,9 @@ impl Partial {
         ensures { result ≡ possible_votes self.now t }
     {
         let c = self.shape.contest_of(t);
-        let mut votes = 0;
+        let mut votes: u16 = 0;
         for row in &self.marks {
-            if possibly_votes_for(&self.shape, row.as_slice(), t, c) {
-                votes += 1;
-            }
+            votes += u16::from(possibly_votes_for(&self.shape, row.as_slice(), t, c));
         }
         votes
     }

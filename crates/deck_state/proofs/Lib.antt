@@ -1,0 +1,11 @@
+pub mod Rows
+pub mod Restored
+pub mod Room
+pub mod Kept
+pub mod Opened
+pub mod Back
+pub mod Changed
+pub mod Compared
+pub mod Alike
+pub mod Enclosed
+pub mod Fields
