@@ -9,3 +9,5 @@ pub mod Compared
 pub mod Alike
 pub mod Enclosed
 pub mod Fields
+pub mod Completions
+pub mod ShownDecks

@@ -4,3 +4,4 @@ pub mod Changes
 pub mod Trail
 pub mod Votes
 pub mod Completion
+pub mod Shown

@@ -11,7 +11,7 @@ mod votes;
 
 pub use bounds::Bounds;
 pub use counts::{marked_in, possible_in};
-pub use law::bounds_enclose;
+pub use law::{bounds_enclose, steps_are_undone};
 pub use mark::Mark;
 pub use partial::Partial;
 pub use step::Step;
