@@ -1,5 +1,5 @@
 -- What the fields of a partial deck are: p is the partial deck, q what its fields show, and `rows` the vectors that keep its marks.
-use Rattle.std.proofs.Common.{◌≡◌, ◌+◌, ◌-◌, ◌*◌, ◌<◌, ◌≤◌, ◌++◌, ℕ, Bool, true, false, cond, List, [], ◌∷◌, length, take, get_or, set, map, replicate, count_by, Option, Some, refl, ap, sym, subst, ◌∙◌, arith, vec_len, Vec, Global}
+use Rattle.std.proofs.Common.{◌≡◌, ◌+◌, ◌-◌, ◌*◌, ◌<◌, ◌≤◌, ◌++◌, ℕ, Bool, true, false, cond, List, [], ◌∷◌, length, take, get_or, set, count_by, Option, Some, refl, ap, sym, subst, ◌∙◌, arith, vec_len, Vec, Global}
 use mir.Val.{bool_byte}
 use Rattle.std.specs.Vec.{with_item}
 use Rattle.std.proofs.lemmas.List.{get_or_default, length-map}

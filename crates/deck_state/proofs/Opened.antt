@@ -1,5 +1,5 @@
 -- The partial deck of which nothing is decided.
-use Rattle.std.proofs.Common.{◌≡◌, ◌+◌, ◌*◌, ◌-◌, ◌≤◌, ℕ, List, [], length, replicate, sum_by, count_by, All, refl, ap, sym, subst, ◌∙◌, arith}
+use Rattle.std.proofs.Common.{◌≡◌, ◌*◌, ◌≤◌, ℕ, List, length, replicate, sum_by, subst, arith}
 use Rattle.std.proofs.lemmas.List.{length-replicate}
 use Rattle.std.proofs.lemmas.List.Elements.{All-replicate}
 use Rattle.std.proofs.lemmas.List.Sums.{sum_by-le, count_by-le-length}
@@ -9,9 +9,8 @@ use Rattle.lat_base.specs.Rules.{RuleSet}
 use Rattle.deck_state.specs.declared.bounds.Bounds.{Bounds}
 use Rattle.deck_state.specs.declared.mark.Mark.{Mark}
 use Rattle.deck_state.specs.declared.mark.Mark.TheVariants.{Undecided}
-use Rattle.deck_state.specs.declared.step.Step.{Step}
 use Rattle.deck_state.specs.Mark.{is_undecided}
-use Rattle.deck_state.specs.PartialDeck.{PartialDeck, empty}
+use Rattle.deck_state.specs.PartialDeck.{empty}
 use Rattle.deck_state.specs.Trail.{AreBounds, undecided_count, width, IsPartial}
 
 -- at first there is room to decide each mark

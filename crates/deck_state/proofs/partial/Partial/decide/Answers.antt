@@ -1,8 +1,7 @@
-use Rattle.std.proofs.Common.{◌+◌, ◌*◌, ◌≤◌, refl, arith, sym, subst}
+use Rattle.std.proofs.Common.{refl, arith, sym, subst}
 use Rattle.deck_state.specs.Trail.{IsPartial}
-use Rattle.deck_state.proofs.Room.{CanDecide}
 use Rattle.deck_state.proofs.Kept.{decided_partial}
-use Rattle.deck_state.proofs.Fields.{AreFields, is_partial, in_row, room_to_decide, after_decided}
+use Rattle.deck_state.proofs.Fields.{room_to_decide, after_decided}
 use Rattle.deck_state.proofs.partial.Partial.decide.Goals as goal
 
 pub push_reserved-requires : goal.push_reserved-requires

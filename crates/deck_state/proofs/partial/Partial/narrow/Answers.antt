@@ -1,8 +1,8 @@
-use Rattle.std.proofs.Common.{◌+◌, ◌*◌, ◌≤◌, refl, arith, sym, subst}
+use Rattle.std.proofs.Common.{refl, arith, sym, subst}
 use Rattle.deck_state.specs.Trail.{IsPartial}
-use Rattle.deck_state.proofs.Room.{CanNarrow, can_narrow}
+use Rattle.deck_state.proofs.Room.{can_narrow}
 use Rattle.deck_state.proofs.Kept.{narrowed_partial}
-use Rattle.deck_state.proofs.Fields.{AreFields, read_bounds, room_to_narrow, after_narrowed}
+use Rattle.deck_state.proofs.Fields.{read_bounds, room_to_narrow, after_narrowed}
 use Rattle.deck_state.proofs.partial.Partial.narrow.Goals as goal
 
 pub push_reserved-requires : goal.push_reserved-requires

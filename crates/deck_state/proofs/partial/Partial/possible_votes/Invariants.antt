@@ -1,6 +1,5 @@
 use Rattle.std.proofs.Common.{◌≡◌, ◌≤◌, take, count_by}
 use Rattle.deck_state.specs.Votes.{possibly_votes_for}
-use Rattle.deck_state.proofs.Rows.{rows_of}
 use Rattle.deck_state.proofs.partial.Partial.possible_votes.Given as goal
 
 abbrev pub invariant-loop-row : goal.invariant-loop-row

@@ -1,5 +1,5 @@
 use Rattle.std.proofs.Common.{refl, ap, ◌∙◌, length}
-use Rattle.deck_state.proofs.Fields.{AreFields, row_width}
+use Rattle.deck_state.proofs.Fields.{row_width}
 use Rattle.deck_state.proofs.partial.Partial.row.Goals as goal
 
 pub returns-clause-long : goal.returns-clause-long

@@ -1,4 +1,4 @@
-use Rattle.std.proofs.Common.{◌≡◌, ◌+◌, ◌*◌, ◌≤◌, Some, refl, arith, ap, sym, subst, ◌∙◌}
+use Rattle.std.proofs.Common.{Some, refl, arith, ap, sym, subst, ◌∙◌}
 use Rattle.deck_state.specs.declared.step.Step.TheVariants.{Decided, Narrowed}
 use Rattle.deck_state.specs.Trail.{IsPartial}
 use Rattle.deck_state.proofs.Kept.{undone_partial}
