@@ -9,5 +9,6 @@ pub mod Compared
 pub mod Alike
 pub mod Enclosed
 pub mod Fields
+pub mod Seen
 pub mod Completions
 pub mod ShownDecks

@@ -1,7 +1,8 @@
 use Rattle.std.proofs.Common.{refl, ap, ◌∙◌}
 use Rattle.deck_state.specs.PartialDeck.{PartialDeck}
 use Rattle.deck_state.specs.Votes.{surely_votes_for}
-use Rattle.deck_state.proofs.Fields.{AreFields, seen_row, seen_width, row_counted, few_counted}
+use Rattle.deck_state.proofs.Fields.{AreFields}
+use Rattle.deck_state.proofs.Seen.{seen_row, seen_width, row_counted, few_counted}
 use Rattle.deck_state.proofs.partial.Partial.sure_votes.Goals as goal
 
 pub surely_votes_for-requires-clause-long : goal.surely_votes_for-requires-clause-long
