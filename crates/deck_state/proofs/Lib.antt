@@ -1,0 +1,14 @@
+pub mod Rows
+pub mod Restored
+pub mod Room
+pub mod Kept
+pub mod Opened
+pub mod Back
+pub mod Changed
+pub mod Compared
+pub mod Alike
+pub mod Enclosed
+pub mod Fields
+pub mod Seen
+pub mod Completions
+pub mod ShownDecks
