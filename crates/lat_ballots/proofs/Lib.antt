@@ -4,3 +4,4 @@ pub mod Slices
 pub mod Rows
 pub mod PlainDeck
 pub mod Sorting
+pub mod Common

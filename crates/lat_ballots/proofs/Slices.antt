@@ -34,7 +34,7 @@ bit_at_joined words q i low lt = elim (cases_lt i 64) [
       bit_at_cat_high (get_or words (q + 1) 0) 64 (get_or words q 0) i low next ∙ sym (λ k. bit_at (get_or words (word k) 0) (place k))
 ]
 
-as_bit : (b : ℕ) → b < 2 → cond (nat_eq b 1) 1 0 ≡ b
+pub as_bit : (b : ℕ) → b < 2 → cond (nat_eq b 1) 1 0 ≡ b
 as_bit b lt = grind (arith, nat_tests)
 
 -- bit i of the slice is bit first + i of the row

@@ -1,5 +1,5 @@
--- A row of 256 bits in four words of 64, the marks of one ballot.
-use Rattle.std.specs.Prelude.{◌==◌, ◌/◌, ◌%◌, ℕ, Bool, List, map, get_or}
+-- A row of 256 bits in four words of 64: the marks of one ballot, or a set of targets.
+use Rattle.std.specs.Prelude.{◌==◌, ◌/◌, ◌%◌, ◌&&◌, ℕ, Bool, false, List, length, map, get_or, count_by}
 use Rattle.std.specs.List.{range_with_len}
 use Rattle.std.specs.Int.{bit_at}
 
@@ -10,3 +10,11 @@ is_set words t = bit_at (get_or words (t / 64) 0) (t % 64) == 1
 -- the row's 256 bits, from bit 0 on
 abbrev pub bits_of : List ℕ → List Bool
 bits_of words = map (is_set words) (range_with_len 0 256)
+
+-- whether t is in both rows
+abbrev pub is_common : List Bool → List Bool → ℕ → Bool
+is_common row other t = get_or row t false && get_or other t false
+
+-- how many places of a row are also in another
+abbrev pub common_count : List Bool → List Bool → ℕ
+common_count row other = count_by (is_common row other) (range_with_len 0 (length row))

@@ -8,6 +8,7 @@ mod words;
 
 pub use deck::Deck;
 pub use plain::plain_size;
+pub use row::Row;
 
 #[cfg(test)]
 mod tests;

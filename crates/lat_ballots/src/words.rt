@@ -1,6 +1,6 @@
 ghost use Rattle.std.specs.Prelude.{false, ◌≡◌, ◌<◌, ◌≤◌, ◌+◌, ◌-◌, ◌*◌, ◌^◌, get_or, slice_range};
 ghost use Rattle.std.specs.Simd.Lanes.{mask_l};
-ghost use Rattle.lat_ballots.specs.Row.{bits_of};
+ghost use Rattle.lat_ballots.specs.Row.{bits_of, common_count};
 
 // Whether bit `t` is set.
 #[tactic(auto, using(crate::proofs::OneBit::bit_read))]
@@ -46,4 +46,16 @@ pub(crate) fn bits_between(words: &[u64; 4], first: u16, last: u16) -> u64
     let from_first = join_words(words, first / 64) >> (first % 64);
     let mask = (1u128 << (last - first)) - 1;
     (from_first & mask) as u64
+}
+
+// How many bits are set in both rows.
+#[tactic(auto, using(crate::proofs::Common::word_more, crate::proofs::Common::word_last, crate::proofs::Common::word_few))]
+pub(crate) fn count_common(words: &[u64; 4], others: &[u64; 4]) -> u16
+    ensures { result ≡ common_count (bits_of words.now) (bits_of others.now) }
+{
+    let mut count: u16 = 0;
+    for i in 0..4 {
+        count += (words[i] & others[i]).count_ones() as u16;
+    }
+    count
 }
