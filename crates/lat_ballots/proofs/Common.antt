@@ -9,7 +9,7 @@ use Rattle.std.proofs.lemmas.List.{get_or-take, length-take-le}
 use Rattle.std.proofs.lemmas.Nat.{and_le_l}
 use Rattle.std.proofs.lemmas.List.FromFn.{get_or-map-range_with_len, length-map-range_with_len, length-range_with_len}
 use Rattle.std.proofs.lemmas.List.Sums.{count_by-le-length}
-use Rattle.readings.proofs.Ranges.{count_more}
+use Rattle.readings.proofs.Ranges.{count_more, count_same}
 use Rattle.readings.proofs.Counting.{none_pass}
 use Rattle.lat_ballots.specs.Row.{bits_of, is_set, is_common, common_count}
 use Rattle.lat_ballots.specs.Deck.{AreRows}
@@ -50,14 +50,6 @@ both_bits (suc zero) (suc zero) la lb = refl
 both_bits (suc zero) (suc (suc b)) la lb = absurd (omega arith)
 both_bits (suc (suc a)) b la lb = absurd (omega arith)
 
-count_alike : (p q : ℕ → Bool) (n : ℕ) → ((k : ℕ) → k < n → p k ≡ q k) → count_by p (range_with_len 0 n) ≡ count_by q (range_with_len 0 n)
-count_alike p q zero h = refl
-count_alike p q (suc n) h =
-    let last : suc n ≡ n + 1 = omega arith in
-    let here : ◌≡◌ {A = ℕ} (cond (p n) 1 0) (cond (q n) 1 0) = ap (λ (b : Bool). cond b 1 0) (h n (omega arith)) in
-    subst (λ (k : ℕ). count_by p (range_with_len 0 k) ≡ count_by q (range_with_len 0 k)) (sym last)
-    (omega (arith, count_more p n, count_more q n, here, count_alike p q n (λ k lt. h k (omega arith))))
-
 -- the common places of the first words
 abbrev pub common_below : List ℕ → List ℕ → ℕ → ℕ
 common_below words others n = count_by (is_common (bits_of words) (bits_of others)) (range_with_len 0 n)
@@ -79,7 +71,7 @@ word_more words others i lt fits =
     let v : ℕ = get_or others i 0 in
     let next : 64 * (i + 1) ≡ 64 * i + 64 = omega arith in
     let both = is_common (bits_of words) (bits_of others) in
-    let each = count_alike (λ k. both (64 * i + k)) (λ k. nat_eq (bit_at (bit_and w v) k) 1) 64
+    let each = count_same (λ k. both (64 * i + k)) (λ k. nat_eq (bit_at (bit_and w v) k) 1) 64
         (λ k below.
           let at : (64 * i + k) / 64 ≡ i = omega arith in
           let place : (64 * i + k) % 64 ≡ k = omega arith in
@@ -105,8 +97,8 @@ common_within row other n le none =
     let both = is_common row other in
     let rest : ℕ = length row - n in
     let parts : n + rest ≡ length row = omega arith in
-    let no_more = count_alike (λ k. both (n + k)) (λ k. false) rest (λ k lt. ap (λ (b : Bool). get_or row (n + k) false && b) (none (n + k) (omega arith)) ∙ nothing (get_or row (n + k) false)) in
-    let front = count_alike both (is_common (take n row) other) n (λ k lt. ap (λ (b : Bool). b && get_or other k false) (sym (get_or-take n row k false lt))) in
+    let no_more = count_same (λ k. both (n + k)) (λ k. false) rest (λ k lt. ap (λ (b : Bool). get_or row (n + k) false && b) (none (n + k) (omega arith)) ∙ nothing (get_or row (n + k) false)) in
+    let front = count_same both (is_common (take n row) other) n (λ k lt. ap (λ (b : Bool). b && get_or other k false) (sym (get_or-take n row k false lt))) in
     let long = ap (λ (k : ℕ). count_by (is_common (take n row) other) (range_with_len 0 k)) (length-take-le n row le) in
     omega (arith, ap (λ (k : ℕ). count_by both (range_with_len 0 k)) parts, range_parts both n rest, no_more, none_pass (range_with_len 0 rest), front, long)
 

@@ -71,16 +71,18 @@ sound_from all before (source ∷ rest) e sound h =
     sound_from all (before ++ source ∷ []) rest (e ∙ sym (append_assoc before (source ∷ []) rest)) (sound_more (length all) before source sound lt none)
     (subst (λ (i : ℕ). fault_from all i rest ≡ None) long new.1)
 
+-- n different targets of n are all of them
+pub sound_is : (s : List ℕ) → Sound (length s) s → IsMisassignment (length s) s
+sound_is s sound = record {
+  long = refl;
+  once = λ t lt. elim (cases_eq (count_of t s) 0) [
+    | inl none ↦ absurd (omega (arith, one_fewer s (length s) t sound.once lt none, sound.below))
+    | inr some ↦ omega (arith, sound.once t, some)
+  ];
+}
+
 pub valid : (s : List ℕ) → source_fault s ≡ None → IsMisassignment (length s) s
-valid s h =
-    let sound = sound_from s [] s refl (record { once = λ t. omega arith; below = refl }) h in
-    record {
-      long = refl;
-      once = λ t lt. elim (cases_eq (count_of t s) 0) [
-        | inl none ↦ absurd (omega (arith, one_fewer s (length s) t sound.once lt none, sound.below))
-        | inr some ↦ omega (arith, sound.once t, some)
-      ];
-    }
+valid s h = sound_is s (sound_from s [] s refl (record { once = λ t. omega arith; below = refl }) h)
 
 pub valid_sources : (s : List ℕ) → source_fault s ≡ None → 1 ≤ length s → length s ≤ 256 → AreSources s
 valid_sources s h some few = record { some = some; few = few; is = valid s h }

@@ -80,6 +80,14 @@ impl Misassignment {
         }
     }
 
+    /// The misassignment of sources that are known to be one's.
+    pub fn from_valid(sources: Vec<u16>) -> Misassignment
+        requires { AreSources sources.items }
+        ensures { result ≡ sources.items }
+    {
+        Misassignment { sources }
+    }
+
     /// The exchange of the targets `t` and `u`, of `n` targets in all.
     #[tactic(auto, using(crate::proofs::Identity::identity_long, crate::proofs::Swaps::sources_swapped))]
     pub fn swap(alloc: Global, n: u16, t: u16, u: u16) -> Result<Misassignment, AllocError>

@@ -7,7 +7,7 @@ mod reports;
 mod same_report;
 mod totals;
 
-pub use losses::lost;
+pub use losses::{count_marks, lost};
 pub use read::total_read;
 pub use reports::report;
 pub use same_report::leaves_report;

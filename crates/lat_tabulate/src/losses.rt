@@ -23,8 +23,8 @@ fn count_ballot(deck: &Deck, j: u16) -> u32
     marks
 }
 
-// How many marks the deck has.
-fn count_marks(deck: &Deck) -> u32
+/// How many marks the deck has.
+pub fn count_marks(deck: &Deck) -> u32
     ensures { result ≡ mark_total deck.now.ballots }
 {
     let mut marks: u32 = 0;

@@ -29,7 +29,7 @@ cond_sum : (b : Bool) (m n : ℕ) → cond b m 0 + cond b n 0 ≡ cond b (m + n)
 cond_sum true m n = refl
 cond_sum false m n = refl
 
-at_all : (g : ℕ → Bool) (n : ℕ) (s : List ℕ) → count_by (λ x. g x && (x == n)) s ≡ cond (g n) (count_by (λ x. x == n) s) 0
+pub at_all : (g : ℕ → Bool) (n : ℕ) (s : List ℕ) → count_by (λ x. g x && (x == n)) s ≡ cond (g n) (count_by (λ x. x == n) s) 0
 at_all g n [] = none (g n)
   where
     none : (b : Bool) → ◌≡◌ {A = ℕ} 0 (cond b 0 0)

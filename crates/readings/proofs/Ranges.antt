@@ -1,5 +1,5 @@
 -- Ranges of numbers.
-use Rattle.std.proofs.Common.{◌≡◌, ◌≤◌, ◌<◌, ◌+◌, ◌++◌, ℕ, zero, suc, Bool, true, false, List, [], ◌∷◌, cond, count_by, sum_by, map, refl, ap, ◌∙◌, arith}
+use Rattle.std.proofs.Common.{◌≡◌, ◌≤◌, ◌<◌, ◌+◌, ◌++◌, ℕ, zero, suc, Bool, true, false, List, [], ◌∷◌, cond, count_by, sum_by, map, refl, ap, sym, subst, ◌∙◌, arith}
 use Rattle.std.specs.Prelude.{◌==◌}
 use Rattle.std.specs.List.{range_with_len}
 use Rattle.std.proofs.lemmas.List.{map-append}
@@ -25,6 +25,15 @@ made_more f n = ap (map f) (range_more n) ∙ map-append f (range_with_len 0 n) 
 -- a count over the numbers below n + 1
 pub count_more : (p : ℕ → Bool) (n : ℕ) → count_by p (range_with_len 0 (n + 1)) ≡ count_by p (range_with_len 0 n) + cond (p n) 1 0
 count_more p n = ap (count_by p) (range_more n) ∙ sum_by_push (λ (x : ℕ). cond (p x) 1 0) (range_with_len 0 n) n
+
+-- tests that agree on the numbers below n pass as often there
+pub count_same : (p q : ℕ → Bool) (n : ℕ) → ((k : ℕ) → k < n → p k ≡ q k) → count_by p (range_with_len 0 n) ≡ count_by q (range_with_len 0 n)
+count_same p q zero h = refl
+count_same p q (suc n) h =
+    let last : suc n ≡ n + 1 = omega arith in
+    let here : ◌≡◌ {A = ℕ} (cond (p n) 1 0) (cond (q n) 1 0) = ap (λ (b : Bool). cond b 1 0) (h n (omega arith)) in
+    subst (λ (k : ℕ). count_by p (range_with_len 0 k) ≡ count_by q (range_with_len 0 k)) (sym last)
+    (omega (arith, count_more p n, count_more q n, here, count_same p q n (λ k lt. h k (omega arith))))
 
 -- a sum over the numbers below n + 1
 pub sum_more : (f : ℕ → ℕ) (n : ℕ) → sum_by f (range_with_len 0 (n + 1)) ≡ sum_by f (range_with_len 0 n) + f n

@@ -1,7 +1,7 @@
 -- Reports and their totals.
-use Rattle.std.proofs.Common.{◌≡◌, ◌≤◌, ◌<◌, ◌+◌, ℕ, zero, suc, Bool, List, ◌∷◌, get_or, map, refl, ap, sym, ◌∙◌, arith}
+use Rattle.std.proofs.Common.{◌≡◌, ◌≤◌, ◌<◌, ◌+◌, ℕ, zero, suc, Bool, List, ◌∷◌, length, get_or, map, refl, ap, sym, ◌∙◌, arith}
 use Rattle.std.specs.List.{range_with_len}
-use Rattle.std.proofs.lemmas.List.FromFn.{get_or-map-range_with_len}
+use Rattle.std.proofs.lemmas.List.FromFn.{get_or-map-range_with_len, length-map-range_with_len}
 use Rattle.lat_base.specs.declared.contest.Contest.{Contest}
 use Rattle.lat_base.specs.Shape.{target_count}
 use Rattle.lat_base.specs.Tally.{total, report}
@@ -19,3 +19,7 @@ same_report contests deck s o h = alike (total contests deck s) (total contests 
 pub report_same : (contests : List Contest) (deck : List (List Bool)) (s o : List ℕ) (u : ℕ) → u < target_count contests → report contests deck s ≡ report contests deck o → total contests deck s u ≡ total contests deck o u
 report_same contests deck s o u h same = sym (get_or-map-range_with_len (total contests deck s) 0 (target_count contests) u u 0 h (omega arith))
     ∙ (ap (λ (r : List ℕ). get_or r u 0) same ∙ get_or-map-range_with_len (total contests deck o) 0 (target_count contests) u u 0 h (omega arith))
+
+-- a report has a total for each target
+pub report_long : (contests : List Contest) (deck : List (List Bool)) (s : List ℕ) → length (report contests deck s) ≡ target_count contests
+report_long contests deck s = length-map-range_with_len (total contests deck s) 0 (target_count contests)

@@ -1,0 +1,16 @@
+pub mod Known
+pub mod Moved
+pub mod Start
+pub mod Filtered
+pub mod Fitting
+pub mod Bounds
+pub mod VoteBounds
+pub mod LossBounds
+pub mod Laws
+pub mod Whole
+pub mod Found
+pub mod Steps
+pub mod TargetSets
+pub mod Counted
+pub mod Ranges
+pub mod Tries

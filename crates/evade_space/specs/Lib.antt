@@ -1,0 +1,9 @@
+pub mod Sources
+pub mod PartialMisassignment
+pub mod Seen
+pub mod Votes
+pub mod Losses
+pub mod Sought
+pub mod Dead
+pub mod Kids
+pub mod Steps

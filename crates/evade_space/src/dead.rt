@@ -1,0 +1,70 @@
+ghost use Rattle.std.specs.Prelude.{◌≡◌, ◌<◌, ◌≤◌, ◌*◌, ◌^◌, length};
+ghost use Rattle.std.specs.List.{list_any, range_with_len};
+ghost use Rattle.lat_base.specs.Shape.{target_count};
+ghost use Rattle.evade_space.specs.Sources.{AreGiven};
+ghost use Rattle.evade_space.specs.Dead.{is_missed, wanted_total, is_overspent, is_dead};
+
+use crate::Evade;
+use crate::losses::lost;
+use crate::votes::{may_vote, must_vote};
+
+// Whether image `u` has a source, and not the wanted votes. Where just the wanted number of ballots
+// may vote for it, no more surely do.
+#[tactic(auto, using(crate::proofs::VoteBounds::must_may))]
+fn is_missed(space: &Evade, sources: &[Option<u16>], u: u16) -> bool
+    requires sources { AreGiven (target_count space.now.contests) sources.now }
+    requires image { u < target_count space.now.contests }
+    ensures { result ≡ is_missed space.now sources.now u }
+{
+    let Some(t) = sources[u as usize] else {
+        return false;
+    };
+    let wanted = space.wanted[u as usize];
+    let most = may_vote(&space.shape, &space.deck, sources, u, t);
+    most < wanted || most > wanted && must_vote(&space.shape, &space.deck, sources, u, t) > wanted
+}
+
+// The wanted votes of all targets.
+fn wanted_total(wanted: &[u32]) -> u64
+    requires { length wanted.now ≤ 256 }
+    ensures sum { result ≡ wanted_total wanted.now }
+    ensures few { result ≤ 256 * 2 ^ 32 }
+{
+    let mut total: u64 = 0;
+    for votes in wanted {
+        total += u64::from(*votes);
+    }
+    total
+}
+
+// Whether the marks that are surely lost and the wanted votes are more than the marks.
+fn is_overspent(space: &Evade, sources: &[Option<u16>]) -> bool
+    requires { AreGiven (target_count space.now.contests) sources.now }
+    ensures { result ≡ is_overspent space.now sources.now }
+{
+    let lost = lost(&space.shape, &space.deck, sources);
+    u64::from(space.marks) < u64::from(lost) + wanted_total(space.wanted.as_slice())
+}
+
+// Whether some image has a source and not the wanted votes.
+fn any_missed(space: &Evade, sources: &[Option<u16>]) -> bool
+    requires { AreGiven (target_count space.now.contests) sources.now }
+    ensures { result ≡ list_any (is_missed space.now sources.now) (range_with_len 0 (length sources.now)) }
+{
+    for u in 0..sources.len() as u16 {
+        if is_missed(space, sources, u) {
+            return true;
+        }
+    }
+    false
+}
+
+// Whether some test shows that no misassignment of the space extends the sources. Image `u`, which
+// got the last one, is looked at first.
+pub fn is_dead(space: &Evade, sources: &[Option<u16>], u: u16) -> bool
+    requires sources { AreGiven (target_count space.now.contests) sources.now }
+    requires image { u < target_count space.now.contests }
+    ensures { result ≡ is_dead space.now sources.now }
+{
+    is_missed(space, sources, u) || is_overspent(space, sources) || any_missed(space, sources)
+}
