@@ -1,0 +1,13 @@
+//! The attack on a deck: a misassignment that it lets pass, or a tree that shows that there is none.
+#![tactic(auto)]
+
+mod attacking;
+mod chooser;
+mod columns;
+mod exchange;
+mod order;
+
+pub use attacking::{Attacked, attack};
+
+#[cfg(test)]
+mod tests;
