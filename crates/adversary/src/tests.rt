@@ -2,11 +2,13 @@ use super::*;
 use evade_space::Evade;
 use lat_ballots::Deck;
 use lat_base::{Contest, Shape};
+use std::process::Abort;
 use std::test::Fail;
 use tree_core::{Verdict0, check_open, check_tree};
 
 // What is to come of an attack: the sources of the one misassignment that evades, none, or a tree of
 // the budget's nodes.
+#[derive(Clone, Copy)]
 enum Answer<'a> {
     Evaded(&'a [u16]),
     Robust,

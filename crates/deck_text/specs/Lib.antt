@@ -10,3 +10,4 @@ pub mod Draft
 pub mod RowCount
 pub mod DeckRead
 pub mod ReportRead
+pub mod VerifyText
