@@ -1,5 +1,5 @@
 -- Decks that nothing evades.
-use Rattle.std.proofs.Common.{◌≡◌, ◌≢◌, ◌⊎◌, inl, inr, ℕ, Bool, true, false, Some, None, Option, List, length, refl, ap}
+use Rattle.std.proofs.Common.{◌≡◌, ◌≢◌, ◌⊎◌, inl, inr, ℕ, Bool, true, false, Some, None, Option, List, length, refl, ap, sym, subst, ◌∙◌}
 use Rattle.std.specs.Prelude.{if◌then◌else◌}
 use Rattle.std.specs.Str.{bytes_eq}
 use Rattle.std.proofs.lemmas.Slice.Eq.{bytes_eq-Decides}
@@ -12,6 +12,10 @@ use Rattle.evade_space.specs.PartialMisassignment.{PartialMisassignment}
 use Rattle.evade_space.specs.Sought.{Sought, Evades, own_sought, start}
 use Rattle.evade_space.specs.Kids.{kids_of}
 use Rattle.evade_space.specs.Steps.{IsSolution, evade_steps}
+use Rattle.tree_core.specs.declared.node.Node.{Node}
+use Rattle.tree_core.specs.Reading.{tree_of}
+use Rattle.tree_core.specs.Checks.{Checks}
+use Rattle.evade_space.specs.declared.skipped.Skipped.{Skipped}
 use Rattle.evade_space.proofs.Start.{nothing_at}
 
 -- an image without a source is an allowed label
@@ -33,6 +37,18 @@ is_robust contests deck none s is same = elim (alike s (identity (target_count c
   | inr ne ↦ absurd (none s (record { is = is; extends = λ u t e. absurd (nothing_at (target_count contests) u t e); other = ne; report = same }))
 ]
 
--- what is found evades the deck
-pub evades : (contests : List Contest) (deck : List (List Bool)) (s : List ℕ) → IsSolution (own_sought contests deck) (start (own_sought contests deck)) s → Evades contests deck s
-evades contests deck s is = record { is = is.is; other = is.other; same = is.report }
+-- a tree of the deck's own space that checks
+pub closed : (contests : List Contest) (deck : List (List Bool)) (space : Sought) (state : PartialMisassignment) (tree : List (Node ℕ Skipped)) → space ≡ own_sought contests deck → state ≡ start space
+    → Checks (evade_steps space) state (tree_of tree) → ((v : List ℕ) → IsSolution space state v → ⊥)
+    → IsRobust contests deck × Checks (evade_steps (own_sought contests deck)) (start (own_sought contests deck)) (tree_of tree)
+closed contests deck space state tree is begins checks none =
+    let at : state ≡ start (own_sought contests deck) = begins ∙ ap start is in
+    (is_robust contests deck (λ v solved. none v (subst (λ (x : Sought). IsSolution x state v) (sym is) (subst (λ (y : PartialMisassignment). IsSolution (own_sought contests deck) y v) (sym at) solved))),
+      subst (λ (y : PartialMisassignment). Checks (evade_steps (own_sought contests deck)) y (tree_of tree)) at (subst (λ (x : Sought). Checks (evade_steps x) state (tree_of tree)) is checks))
+
+-- what is found in the deck's own space evades it
+pub found : (contests : List Contest) (deck : List (List Bool)) (space : Sought) (state : PartialMisassignment) (s v : List ℕ) → space ≡ own_sought contests deck → state ≡ start space
+    → IsSolution space state v → s ≡ v → Evades contests deck s
+found contests deck space state s v is begins solved shown =
+    let own = subst (λ (y : PartialMisassignment). IsSolution (own_sought contests deck) y v) (begins ∙ ap start is) (subst (λ (x : Sought). IsSolution x state v) is solved) in
+    subst (Evades contests deck) (sym shown) (record { is = own.is; other = own.other; same = own.report })

@@ -1,14 +1,6 @@
-ghost use Rattle.std.specs.Prelude.{◌≡◌, ◌≤◌, ℕ, List, Result};
+ghost use Rattle.std.specs.Prelude.{◌≡◌, ◌≤◌, IfOk};
 ghost use Rattle.lat_base.specs.Shape.{target_count};
-ghost use Rattle.lat_base.specs.Goodness.{IsRobust};
-ghost use Rattle.tree_core.specs.declared.node.Node.{Node};
-ghost use Rattle.tree_core.specs.Reading.{tree_of};
-ghost use Rattle.tree_core.specs.Nodes.{IsGapless};
-ghost use Rattle.tree_core.specs.Checks.{Checks};
-ghost use Rattle.tree_search.specs.Outcome.{IsOpenTree};
-ghost use Rattle.evade_space.specs.declared.skipped.Skipped.{Skipped};
-ghost use Rattle.evade_space.specs.Sought.{Evades, own_sought, start};
-ghost use Rattle.evade_space.specs.Steps.{evade_steps};
+ghost use Rattle.adversary.specs.Attack.{IsAttack};
 
 use crate::chooser::InOrder;
 use crate::exchange::find_exchange;
@@ -38,14 +30,7 @@ pub enum Attacked {
 pub fn attack(alloc: Global, shape: &Shape, deck: &Deck, budget: u64) -> Result<Attacked, AllocError>
     requires deck { deck.now.targets ≡ target_count shape.now }
     requires budget { 1 ≤ budget }
-    ensures evaded { (s : List ℕ) → result ≡ Result.Ok (Attacked.Evaded s) → Evades shape.now deck.now.ballots s }
-    ensures robust { (tree : List (Node ℕ Skipped)) → result ≡ Result.Ok (Attacked.Robust tree) → IsRobust shape.now deck.now.ballots }
-    ensures checks { let sought = own_sought shape.now deck.now.ballots in
-        (tree : List (Node ℕ Skipped)) → result ≡ Result.Ok (Attacked.Robust tree) →
-        Checks (evade_steps sought) (start sought) (tree_of tree) }
-    ensures spent { let sought = own_sought shape.now deck.now.ballots in
-        (tree : List (Node ℕ Skipped)) → result ≡ Result.Ok (Attacked.Spent tree) →
-        IsOpenTree (evade_steps sought) (start sought) budget tree × IsGapless tree }
+    ensures { IfOk result (IsAttack shape.now deck.now.ballots budget) }
 {
     if let Some(s) = find_exchange(alloc, shape, deck)? {
         return Ok(Attacked::Evaded(s));
