@@ -124,7 +124,8 @@ pub fn read_deck_csv(
     bytes: &[u8],
 ) -> Result<Deck, CsvFail>
     requires { NamesFit names.now.contests shape.now }
-    ensures { Gives (λ deck. deck) result (deck_read shape.now names.now.contests (file_records bytes.now)) }
+    ensures deck { Gives (λ deck. deck) result (deck_read shape.now names.now.contests (file_records bytes.now)) }
+    ensures targets { IfOk result (λ deck. deck.targets ≡ target_count shape.now) }
 {
     let rows = Records::open(alloc, bytes, b"ballot", b"contest", b"target")?;
     let Ok(draft) = Draft::new(alloc, shape) else {

@@ -3,5 +3,7 @@ pub mod Fronts
 pub mod Tried
 pub mod Decks
 pub mod Files
+pub mod Since
 pub mod PlanFacts
+pub mod VerifyFacts
 pub mod Completeness

@@ -8,6 +8,9 @@ pub mod StatusLine
 pub mod Trying
 pub mod Writing
 pub mod Written
+pub mod RefusalStatus
 pub mod PlanAnswer
 pub mod PlanEnds
 pub mod Complete
+pub mod Verified
+pub mod VerifyEnds

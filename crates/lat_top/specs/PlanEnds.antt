@@ -44,11 +44,3 @@ PlanEnds plan (s.TooWide n) before after = Refused plan (r.TooWide n) before aft
 PlanEnds plan (s.Spent from best) before after = ⊥
 PlanEnds plan (s.Csv fault) before after = ⊥
 PlanEnds plan s.Evaded before after = ⊥
-
--- the status of a refusal
-abbrev pub status_of : Refusal → Status
-status_of r.Memory = s.Memory
-status_of (r.Definition fault) = s.Definition fault
-status_of r.NoStyle = s.NoStyle
-status_of (r.TooWide n) = s.TooWide n
-status_of (r.Csv fault) = s.Csv fault

@@ -1,3 +1,7 @@
+ghost use Rattle.std.specs.Prelude.{◌≡◌};
+ghost use Rattle.lat_top.specs.RefusalStatus.{status_of};
+
+use crate::Status;
 use deck_text::CsvFault;
 use election_json::DefFault;
 use std::alloc::{AllocError, AllocFailed};
@@ -34,5 +38,18 @@ impl<T: Drop> From<AllocFailed<T>> for Refusal {
 
     fn from(_: AllocFailed<T>) -> Refusal {
         Refusal::Memory
+    }
+}
+
+/// The status of a refusal.
+pub fn status_of(refusal: Refusal) -> Status
+    ensures { result ≡ status_of refusal }
+{
+    match refusal {
+        Refusal::Memory => Status::Memory,
+        Refusal::Definition(fault) => Status::Definition(fault),
+        Refusal::NoStyle => Status::NoStyle,
+        Refusal::TooWide(width) => Status::TooWide(width),
+        Refusal::Csv(fault) => Status::Csv(fault),
     }
 }

@@ -1,5 +1,11 @@
+mod verify_tests;
+
 use super::*;
+use crate::plain_robust::is_robust;
+use adversary::{Attacked, attack};
 use election_json::{DefFault, Place};
+use lat_ballots::Deck;
+use lat_base::{Contest, Shape};
 use lat_shelf::{Kind, MemoryShelf, MemorySink};
 use std::alloc::{AllocError, Global};
 use std::process::Abort;

@@ -1,9 +1,10 @@
 ghost use Rattle.std.specs.Prelude.{◌≡◌, ◌≤◌, ◌↔◌, Ok, Err};
 ghost use Rattle.lat_top.specs.declared.word_fault.WordFault.{WordFault};
-ghost use Rattle.lat_top.specs.Words.{Plan, Plans, texts, asked_of};
+ghost use Rattle.lat_top.specs.Words.{Plan, Plans, Verify, Verifies, texts, asked_of};
 ghost use Rattle.lat_top.specs.Asked.{kept};
 ghost use Rattle.lat_top.specs.Outside.{Outside, Untouched};
-ghost use Rattle.lat_top.specs.PlanEnds.{PlanEnds, status_of};
+ghost use Rattle.lat_top.specs.PlanEnds.{PlanEnds};
+ghost use Rattle.lat_top.specs.VerifyEnds.{VerifyEnds};
 ghost use Rattle.lat_top.specs.Complete.{CanPlan, IsPlanned};
 
 use crate::Status;
@@ -11,23 +12,12 @@ use crate::answer::plan;
 use crate::command::Command;
 use crate::plan_words::PlanWords;
 use crate::reading::read_file;
-use crate::refusal::Refusal;
+use crate::refusal::status_of;
+use crate::verify_run::run_verify;
 use crate::words::read_words;
 use crate::write::write_output;
 use lat_shelf::{Shelf, Sink};
 use std::alloc::Global;
-
-fn status_of(refusal: Refusal) -> Status
-    ensures { result ≡ status_of refusal }
-{
-    match refusal {
-        Refusal::Memory => Status::Memory,
-        Refusal::Definition(fault) => Status::Definition(fault),
-        Refusal::NoStyle => Status::NoStyle,
-        Refusal::TooWide(width) => Status::TooWide(width),
-        Refusal::Csv(fault) => Status::Csv(fault),
-    }
-}
 
 // Plans the style of the definition that the words name, and writes the plan.
 #[tactic(auto, using(crate::proofs::PlanFacts::ends_unread))]
@@ -66,6 +56,11 @@ pub fn run<H: Shelf, K: Sink>(alloc: Global, words: &[String], shelf: &mut H, ou
         (record { files = H.files shelf.old; given = K.given out.old; shelf_faults = H.faults shelf.old; sink_faults = K.faults out.old })
         (record { files = H.files shelf.new; given = K.given out.new; shelf_faults = H.faults shelf.new; sink_faults = K.faults out.new }) }
 
+    // What an attack on a deck leaves, by the status.
+    ensures verify { (verify : Verify) → asked_of (texts words.now) ≡ Ok (Verifies verify) → VerifyEnds verify result
+        (record { files = H.files shelf.old; given = K.given out.old; shelf_faults = H.faults shelf.old; sink_faults = K.faults out.old })
+        (record { files = H.files shelf.new; given = K.given out.new; shelf_faults = H.faults shelf.new; sink_faults = K.faults out.new }) }
+
     // A plan that can be made is made.
     ensures complete { (plan : Plan) → asked_of (texts words.now) ≡ Ok (Plans plan) → CanPlan plan
         (record { files = H.files shelf.old; given = K.given out.old; shelf_faults = H.faults shelf.old; sink_faults = K.faults out.old })
@@ -74,7 +69,7 @@ pub fn run<H: Shelf, K: Sink>(alloc: Global, words: &[String], shelf: &mut H, ou
 {
     match read_words(words) {
         Ok(Command::Plan(asked)) => run_plan(alloc, &asked, shelf, out),
-        Ok(Command::Verify(_)) => Status::Memory,
+        Ok(Command::Verify(asked)) => run_verify(alloc, &asked, shelf, out),
         Err(fault) => Status::Words(fault),
     }
 }

@@ -4,7 +4,8 @@ use Rattle.lat_top.specs.Asked.{kept}
 use Rattle.lat_top.specs.Outside.{Outside, HasRead}
 use Rattle.lat_top.specs.Reading.{file_limit}
 use Rattle.lat_top.specs.Written.{texts_of}
-use Rattle.lat_top.proofs.PlanFacts.{Since, ends_by}
+use Rattle.lat_top.proofs.Since.{Since, writes_since}
+use Rattle.lat_top.proofs.PlanFacts.{ends_by}
 use Rattle.lat_top.proofs.top.run_plan.Goals as goal
 
 pub returns-in-Ok-plan : goal.returns-in-Ok-plan
@@ -19,4 +20,5 @@ returns-in-Ok-plan g c =
     let read : HasRead before (kept c.args.asked.now).definition file_limit c.as_slice.result.now =
     record { whole = subst (IsFile before.files (kept c.args.asked.now).definition) (sym c.as_slice.ensures.value) c.in-Ok.ensures.whole; within = omega (arith, c.as_slice.ensures.len, c.in-Ok.ensures.within) } in
     let since : Since before mid = record { files = c.read_file.ensures.files; given = refl; shelf = c.read_file.ensures.faults; sink = refl } in
-    ends_by (kept c.args.asked.now) c.in-Ok-plan.output.status c.write_output.result c.as_slice.result.now (texts_of c.in-Ok-plan.output) before mid after read c.in-Ok-plan.ensures.answer since c.write_output.ensures
+    ends_by (kept c.args.asked.now) c.in-Ok-plan.output.status c.write_output.result c.as_slice.result.now (texts_of c.in-Ok-plan.output) before after read c.in-Ok-plan.ensures.answer
+    (writes_since c.in-Ok-plan.output.status c.write_output.result (texts_of c.in-Ok-plan.output) before mid after since c.write_output.ensures)
