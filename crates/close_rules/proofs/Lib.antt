@@ -18,3 +18,4 @@ pub mod Misassigned
 pub mod Evasion
 pub mod Refuted
 pub mod Found
+pub mod Kids
