@@ -19,7 +19,7 @@ use Rattle.deck_state.specs.Votes.{lo, hi, marked_in, possible_in}
 use Rattle.deck_state.proofs.Alike.{AreAlike, alike_at, marks_at_most, marks_at_least}
 use Rattle.deck_state.proofs.Compared.{counts_le}
 use Rattle.deck_state.proofs.Enclosed.{own_votes}
-use Rattle.close_rules.specs.Capacity.{possible_votes, capacity, has_no_capacity}
+use Rattle.close_rules.specs.Capacity.{most_votes, capacity, has_no_capacity}
 use Rattle.close_rules.specs.Solution.{IsSolution}
 use Rattle.close_rules.specs.Totals.{least_totals, most_voting}
 use Rattle.close_rules.proofs.FewColumns.{one_passes}
@@ -56,7 +56,7 @@ some_vote contests ballot c h long some =
     subst (λ (x : ℕ). is_voting contests x ballot ≡ true) of (vote_is_voting contests ballot found.0 (omega (arith, found.2, next, first_le contests (c + 1))) long found.3)
 
 -- the votes of a ballot are possible in the row that it agrees with
-votes_possible : (contests : List Contest) (row : List Mark) (ballot : List Bool) (c : ℕ) → c < length contests → AreAlike (target_count contests) row ballot → votes_in contests c ballot ≤ possible_votes contests c row
+votes_possible : (contests : List Contest) (row : List Mark) (ballot : List Bool) (c : ℕ) → c < length contests → AreAlike (target_count contests) row ballot → votes_in contests c ballot ≤ most_votes contests c row
 votes_possible contests row ballot c h are = elim (cases_lt 0 (votes_in contests c ballot)) [
   | inr none ↦ omega (arith, none)
   | inl some ↦
@@ -64,12 +64,12 @@ votes_possible contests row ballot c h are = elim (cases_lt 0 (votes_in contests
       let voting = both (not (is_blank ballot)) (not (is_overvoted contests ballot c)) (some_vote contests ballot c h are.long some) in
       let fine : mark_count contests ballot c ≤ limit = not_less limit (mark_count contests ballot c) (not_true (is_overvoted contests ballot c) voting.1) in
       let test : nat_lt limit (marked_in contests row c) ≡ false = is_not_less limit (marked_in contests row c) (omega (arith, fine, marks_at_least contests row ballot c are)) in
-      let can : possible_votes contests c row ≡ min limit (possible_in contests row c) = ap (λ (b : Bool). cond b 0 (min limit (possible_in contests row c))) test in
+      let can : most_votes contests c row ≡ min limit (possible_in contests row c) = ap (λ (b : Bool). cond b 0 (min limit (possible_in contests row c))) test in
       omega (arith, can, fine, votes_marks contests ballot c h are.long, marks_at_most contests row ballot c are)
 ]
 
 -- no row gives more votes than the limit
-pub few_possible : (contests : List Contest) (row : List Mark) (c : ℕ) → possible_votes contests c row ≤ (contest_at contests c).limit
+pub few_possible : (contests : List Contest) (row : List Mark) (c : ℕ) → most_votes contests c row ≤ (contest_at contests c).limit
 few_possible contests row c = by_test (nat_lt (contest_at contests c).limit (marked_in contests row c))
   where
     by_test : (b : Bool) → cond b 0 (min (contest_at contests c).limit (possible_in contests row c)) ≤ (contest_at contests c).limit
@@ -83,23 +83,23 @@ made_up_to f n d (x ∷ xs) h = (h 0 (omega arith), made_up_to f n d xs (λ i lt
 
 -- at each level
 level_le : (p : PartialDeck) (deck : List (List Bool)) (c level : ℕ) → IsPartial p → IsSolution p deck → c < length p.contests
-    → count_above level (map (votes_in p.contests c) deck) ≤ min (most_voting p c) (count_above level (map (possible_votes p.contests c) p.marks))
+    → count_above level (map (votes_in p.contests c) deck) ≤ min (most_voting p c) (count_above level (map (most_votes p.contests c) p.marks))
 level_le p deck c level is solution h =
     let contests = p.contests in
     let votes = count_map (votes_in contests c) (λ (n : ℕ). nat_lt level n) deck in
-    let can = count_map (possible_votes contests c) (λ (n : ℕ). nat_lt level n) p.marks in
+    let can = count_map (most_votes contests c) (λ (n : ℕ). nat_lt level n) p.marks in
     let voting = counts_le (λ ballot. nat_lt level (votes_in contests c ballot)) (is_voting contests c) deck deck [] [] refl
     (λ j lt above. some_vote contests (get_or deck j []) c h (solution.good.fits j [] lt) (omega (arith, less level (votes_in contests c (get_or deck j [])) above))) in
-    let possible = counts_le (λ ballot. nat_lt level (votes_in contests c ballot)) (λ row. nat_lt level (possible_votes contests c row)) deck p.marks [] [] (solution.completion.size ∙ sym is.height)
+    let possible = counts_le (λ ballot. nat_lt level (votes_in contests c ballot)) (λ row. nat_lt level (most_votes contests c row)) deck p.marks [] [] (solution.completion.size ∙ sym is.height)
     (λ j lt above.
     let alike = alike_at p deck j is solution.completion (omega (arith, lt, solution.completion.size)) in
-    is_less level (possible_votes contests c (get_or p.marks j [])) (omega (arith, less level (votes_in contests c (get_or deck j [])) above, votes_possible contests (get_or p.marks j []) (get_or deck j []) c h alike))) in
+    is_less level (most_votes contests c (get_or p.marks j [])) (omega (arith, less level (votes_in contests c (get_or deck j [])) above, votes_possible contests (get_or p.marks j []) (get_or deck j []) c h alike))) in
     omega (arith, votes, can, voting, possible, few_voting p deck c solution h)
 
 -- the capacity by levels
-pub capacity_by_levels : (p : PartialDeck) (c : ℕ) → levels (contest_at p.contests c).limit (most_voting p c) (map (possible_votes p.contests c) p.marks) ≡ capacity p c
+pub capacity_by_levels : (p : PartialDeck) (c : ℕ) → levels (contest_at p.contests c).limit (most_voting p c) (map (most_votes p.contests c) p.marks) ≡ capacity p c
 capacity_by_levels p c =
-    largest_by_levels (contest_at p.contests c).limit (most_voting p c) (map (possible_votes p.contests c) p.marks) (made_up_to (possible_votes p.contests c) (contest_at p.contests c).limit [] p.marks (λ j lt. few_possible p.contests (get_or p.marks j []) c))
+    largest_by_levels (contest_at p.contests c).limit (most_voting p c) (map (most_votes p.contests c) p.marks) (made_up_to (most_votes p.contests c) (contest_at p.contests c).limit [] p.marks (λ j lt. few_possible p.contests (get_or p.marks j []) c))
 
 -- the votes of a contest
 votes_fit : (p : PartialDeck) (deck : List (List Bool)) (c : ℕ) → IsPartial p → IsSolution p deck → c < length p.contests → sum_by (votes_in p.contests c) deck ≤ capacity p c
@@ -109,7 +109,7 @@ votes_fit p deck c is solution h =
     let numbers = map (votes_in contests c) deck in
     let up_to = made_up_to (votes_in contests c) limit [] deck
     (λ j lt. omega (arith, few_possible contests (get_or p.marks j []) c, votes_possible contests (get_or p.marks j []) (get_or deck j []) c h (alike_at p deck j is solution.completion (omega (arith, lt, solution.completion.size))))) in
-    let each = sum_by-le-sum_by (λ level. count_above level numbers) (λ level. min (most_voting p c) (count_above level (map (possible_votes contests c) p.marks))) (range_with_len 0 limit)
+    let each = sum_by-le-sum_by (λ level. count_above level numbers) (λ level. min (most_voting p c) (count_above level (map (most_votes contests c) p.marks))) (range_with_len 0 limit)
     (λ level. level_le p deck c level is solution h) in
     omega (arith, sum-map (votes_in contests c) deck, sum_by_levels limit numbers up_to, each, capacity_by_levels p c)
 

@@ -15,6 +15,7 @@ pub mod FewVotes
 pub mod RowVotes
 pub mod DecidedRows
 pub mod Misassigned
+pub mod Touched
 pub mod Evasion
 pub mod Refuted
 pub mod Found

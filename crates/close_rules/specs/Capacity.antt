@@ -9,8 +9,8 @@ use Rattle.deck_state.specs.Votes.{marked_in, possible_in}
 use Rattle.close_rules.specs.Totals.{least_totals, most_voting}
 
 -- how many votes a row can give in contest c: none where it is overvoted, else at most the limit, for targets that are marked or undecided
-abbrev pub possible_votes : List Contest → ℕ → List Mark → ℕ
-possible_votes contests c row =
+abbrev pub most_votes : List Contest → ℕ → List Mark → ℕ
+most_votes contests c row =
     if nat_lt (contest_at contests c).limit (marked_in contests row c) then 0
     else min (contest_at contests c).limit (possible_in contests row c)
 
@@ -30,7 +30,7 @@ sum_of_largest count numbers = sum (take count (falling numbers))
 
 -- how many votes contest c can have in all
 abbrev pub capacity : PartialDeck → ℕ → ℕ
-capacity p c = sum_of_largest (most_voting p c) (map (possible_votes p.contests c) p.marks)
+capacity p c = sum_of_largest (most_voting p c) (map (most_votes p.contests c) p.marks)
 
 -- whether the least totals of contest c are more votes than it can have
 abbrev pub has_no_capacity : PartialDeck → ℕ → Bool

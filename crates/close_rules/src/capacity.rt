@@ -3,17 +3,17 @@ ghost use Rattle.std.specs.List.{sum};
 ghost use Rattle.lat_base.specs.Shape.{target_count};
 ghost use Rattle.deck_state.specs.PartialDeck.{PartialDeck};
 ghost use Rattle.close_rules.specs.Totals.{least_totals};
-ghost use Rattle.close_rules.specs.Capacity.{possible_votes, capacity, has_no_capacity};
+ghost use Rattle.close_rules.specs.Capacity.{most_votes, capacity, has_no_capacity};
 
 use crate::totals::most_voting;
 use deck_state::{Mark, Partial, marked_in, possible_in};
 use lat_base::Shape;
 
 // How many votes a row can give in contest c.
-fn possible_votes(shape: &Shape, c: u16, row: &[Mark]) -> u16
+fn most_votes(shape: &Shape, c: u16, row: &[Mark]) -> u16
     requires contest { c < length shape.now }
     requires long { length row.now ≡ target_count shape.now }
-    ensures { result ≡ possible_votes shape.now c row.now }
+    ensures { result ≡ most_votes shape.now c row.now }
 {
     let limit = shape.contest(c).limit;
     if marked_in(shape, row, c) > limit {
@@ -26,12 +26,12 @@ fn possible_votes(shape: &Shape, c: u16, row: &[Mark]) -> u16
 // How many ballots can give more than so many votes in contest c.
 fn count_above(state: &Partial, c: u16, votes: u16) -> u16
     requires { c < length state.now.contests }
-    ensures value { result ≡ count_by (λ row. nat_lt votes (possible_votes state.now.contests c row)) state.now.marks }
+    ensures value { result ≡ count_by (λ row. nat_lt votes (most_votes state.now.contests c row)) state.now.marks }
     ensures few { result ≤ 1024 }
 {
     let mut above: u16 = 0;
     for j in 0..state.ballots() {
-        above += u16::from(possible_votes(state.shape(), c, state.row(j)) > votes);
+        above += u16::from(most_votes(state.shape(), c, state.row(j)) > votes);
     }
     above
 }

@@ -145,6 +145,5 @@ pub fn cheap(state: &Partial) -> Option<Reason>
     ensures none { (result ≡ None) ↔ ((r : Reason) → IsCheap r → refutes state.now r ≡ false) }
     ensures some { (r : Reason) → result ≡ Some r → Closes state.now r }
 {
-    let found = find_reason(state);
-    found
+    find_reason(state)
 }

@@ -16,7 +16,8 @@ fn count_read(shape: &Shape, s: &Misassignment, row: &[Mark], c: u16) -> u16
     requires targets { length s.now ≡ target_count shape.now }
     ensures { result ≡ mark_count shape.now (reading (map is_marked row.now) s.now) c }
 {
-    let _targets = (shape.targets(), s.len());
+    let _targets = shape.targets();
+    let _sources = s.len();
     let mut count: u16 = 0;
     for u in shape.first_of(c)..shape.first_of(c + 1) {
         count += u16::from(row[s.source(u) as usize].is_marked());

@@ -80,7 +80,10 @@ fn twins_are_fixed(rt: HostRuntime) -> Result<(), Fail> {
     assert!(rt; !refutes(&partial, &Reason::Order(5)));
     assert!(rt; !refutes(&partial, &Reason::Over(2)));
     assert!(rt; !refutes(&partial, &Reason::Same(0, 4)));
+    assert!(rt; !refutes(&partial, &Reason::Totals(2)));
     assert!(rt; !refutes(&partial, &Reason::Pigeon(0)));
+    let narrow = Reason::Evade(Misassignment::swap(rt.alloc(), 3, 0, 1)?);
+    assert!(rt; !refutes(&partial, &narrow));
     Ok(())
 }
 

@@ -2,7 +2,7 @@ use Rattle.std.proofs.Common.{◌≡◌, ℕ, nat_lt, min, map, List, ap, sym, �
 use Rattle.lat_base.specs.declared.contest.Contest.{Contest}
 use Rattle.lat_base.specs.Shape.{contest_at}
 use Rattle.readings.proofs.Counting.{count_map}
-use Rattle.close_rules.specs.Capacity.{possible_votes}
+use Rattle.close_rules.specs.Capacity.{most_votes}
 use Rattle.close_rules.proofs.Capacities.{capacity_by_levels}
 use Rattle.close_rules.proofs.Levels.{count_above, levels, level_more}
 use Rattle.close_rules.proofs.capacity.capacity.Goals as goal
@@ -10,7 +10,7 @@ use Rattle.close_rules.proofs.capacity.capacity.Goals as goal
 pub loop-votes-preserved : goal.loop-votes-preserved
 loop-votes-preserved c =
     let p = c.args.state.now in
-    let can = possible_votes p.contests c.args.c in
+    let can = most_votes p.contests c.args.c in
     let above : c.count_above.result ≡ count_above c.loop-votes.votes (map can p.marks) = c.count_above.ensures.value ∙ sym (count_map can (λ (n : ℕ). nat_lt c.loop-votes.votes n) p.marks) in
     let one : c.from-sum.result ≡ min c.most_voting-most.result (count_above c.loop-votes.votes (map can p.marks)) = c.from-sum.ensures ∙ (c.min.ensures ∙ ap (min c.most_voting-most.result) above) in
     record {
@@ -21,7 +21,7 @@ loop-votes-preserved c =
 pub returns : goal.returns
 returns c =
     let p = c.args.state.now in
-    let numbers = map (possible_votes p.contests c.args.c) p.marks in
+    let numbers = map (most_votes p.contests c.args.c) p.marks in
     let limit : c.contest-votes-end.result.limit ≡ (contest_at p.contests c.args.c).limit =
     ap (λ (x : Contest). x.limit) c.contest-votes-end.ensures ∙ ap (λ (x : List Contest). (contest_at x c.args.c).limit) c.shape.ensures.value in
     let all : c.loop-votes.votes ≡ (contest_at p.contests c.args.c).limit = omega (arith, limit, c.loop-votes-test.false, c.loop-votes.auto.votes-end) in

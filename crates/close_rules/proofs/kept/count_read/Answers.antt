@@ -11,13 +11,13 @@ use Rattle.close_rules.proofs.kept.count_read.Goals as goal
 pub bounds-row-source : goal.bounds-row-source
 bounds-row-source c =
     let within : c.loop-u.u < target_count c.args.shape.now = omega (arith, c.loop-u-test.true, c.first_of-u-end.ensures.within) in
-    source_in (target_count c.args.shape.now) c.args.s.now c.args.row.now c.loop-u.u c.source.result c.len.ensures.sources c.requires.targets c.requires.long within c.source.ensures
+    source_in (target_count c.args.shape.now) c.args.s.now c.args.row.now c.loop-u.u c.source.result c.len-sources.ensures.sources c.requires.targets c.requires.long within c.source.ensures
 
 pub loop-u-preserved : goal.loop-u-preserved
 loop-u-preserved c =
     let first = first_target c.args.shape.now c.args.c in
     let within : c.loop-u.u < target_count c.args.shape.now = omega (arith, c.loop-u-test.true, c.first_of-u-end.ensures.within) in
-    let place = source_in (target_count c.args.shape.now) c.args.s.now c.args.row.now c.loop-u.u c.source.result c.len.ensures.sources c.requires.targets c.requires.long within c.source.ensures in
+    let place = source_in (target_count c.args.shape.now) c.args.s.now c.args.row.now c.loop-u.u c.source.result c.len-sources.ensures.sources c.requires.targets c.requires.long within c.source.ensures in
     let long : c.loop-u.u < length c.args.s.now = omega (arith, within, c.requires.targets) in
     let mark = read_mark c.args.s.now c.args.row.now c.loop-u.u c.source.result Marked long place c.source.ensures ∙ sym c.is_marked.ensures in
     let from : first ≤ c.loop-u.u = omega (arith, c.loop-u.auto.u, c.first_of-u.ensures.value) in
