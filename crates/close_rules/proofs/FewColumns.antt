@@ -38,7 +38,7 @@ one_passes test a (suc n) h = by_test (test a) refl (one_passes test (a + 1) n)
         (found.0, omega (arith, found.1), omega (arith, found.2), found.3)
 
 -- two targets that pass a test and have the same marks on each ballot
-pub record AreAlike (test : ℕ → Bool) (a n : ℕ) (deck : List (List Bool)) : Type 0 where
+pub record AreSame (test : ℕ → Bool) (a n : ℕ) (deck : List (List Bool)) : Type 0 where
   pub first : ℕ
   pub second : ℕ
   pub other : first ≢ second
@@ -47,11 +47,11 @@ pub record AreAlike (test : ℕ → Bool) (a n : ℕ) (deck : List (List Bool)) 
   pub passes : (test first ≡ true) × (test second ≡ true)
   pub same : All (λ ballot. is_marked ballot first ≡ is_marked ballot second) deck
 
-two_pass : (test : ℕ → Bool) (a n : ℕ) → 2 ≤ count_by test (range_with_len a n) → AreAlike test a n []
+two_pass : (test : ℕ → Bool) (a n : ℕ) → 2 ≤ count_by test (range_with_len a n) → AreSame test a n []
 two_pass test a zero h = absurd (omega (arith, h))
 two_pass test a (suc n) h = by_test (test a) refl (two_pass test (a + 1) n)
   where
-    by_test : (b : Bool) → test a ≡ b → (2 ≤ count_by test (range_with_len (a + 1) n) → AreAlike test (a + 1) n []) → AreAlike test a (suc n) []
+    by_test : (b : Bool) → test a ≡ b → (2 ≤ count_by test (range_with_len (a + 1) n) → AreSame test (a + 1) n []) → AreSame test a (suc n) []
     by_test true e later =
         let one : ◌≡◌ {A = ℕ} (cond (test a) 1 0) 1 = ap (λ (b : Bool). cond b 1 0) e in
         let found = one_passes test (a + 1) n (omega (arith, h, one, sum_by-cons (λ (m : ℕ). cond (test m) 1 0) a (range_with_len (a + 1) n))) in
@@ -78,7 +78,7 @@ two_pass test a (suc n) h = by_test (test a) refl (two_pass test (a + 1) n)
         }
 
 -- one more ballot, on which the targets that pass have the same mark
-with_ballot : (test half : ℕ → Bool) (n : ℕ) (ballot : List Bool) (deck : List (List Bool)) → (mark : Bool) → ((u : ℕ) → half u ≡ true → (test u ≡ true) × (is_marked ballot u ≡ mark)) → AreAlike half 0 n deck → AreAlike test 0 n (ballot ∷ deck)
+with_ballot : (test half : ℕ → Bool) (n : ℕ) (ballot : List Bool) (deck : List (List Bool)) → (mark : Bool) → ((u : ℕ) → half u ≡ true → (test u ≡ true) × (is_marked ballot u ≡ mark)) → AreSame half 0 n deck → AreSame test 0 n (ballot ∷ deck)
 with_ballot test half n ballot deck mark tell found =
     let first = tell found.first found.passes.0 in
     let second = tell found.second found.passes.1 in
@@ -93,7 +93,7 @@ with_ballot test half n ballot deck mark tell found =
     }
 
 -- of more targets than there are columns on the ballots of a deck, two are alike
-pub two_alike : (n : ℕ) (deck : List (List Bool)) (test : ℕ → Bool) → 2 ^ length deck < count_by test (range_with_len 0 n) → AreAlike test 0 n deck
+pub two_alike : (n : ℕ) (deck : List (List Bool)) (test : ℕ → Bool) → 2 ^ length deck < count_by test (range_with_len 0 n) → AreSame test 0 n deck
 two_alike n [] test h = two_pass test 0 n (omega (arith, h))
 two_alike n (ballot ∷ deck) test h = elim (cases_lt (2 ^ length deck) (count_by (λ u. test u && is_marked ballot u) (range_with_len 0 n))) [
   | inl many ↦ with_ballot test (λ u. test u && is_marked ballot u) n ballot deck true (λ u passes. both (test u) (is_marked ballot u) passes) (two_alike n deck (λ u. test u && is_marked ballot u) many)
