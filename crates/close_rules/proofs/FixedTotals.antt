@@ -28,7 +28,7 @@ use Rattle.close_rules.proofs.Along.{inside}
 use Rattle.close_rules.proofs.Passed.{both, less, equal, at_number}
 
 -- the totals of a contest, one by one
-totals_are : (contests : List Contest) (deck : List (List Bool)) (c : ℕ) → c < length contests → totals_in contests deck c ≡ map (own_total contests deck) (targets_of contests c)
+pub totals_are : (contests : List Contest) (deck : List (List Bool)) (c : ℕ) → c < length contests → totals_in contests deck c ≡ map (own_total contests deck) (targets_of contests c)
 totals_are contests deck c h =
     let n = (contest_at contests c).targets in
     let first = first_target contests c in

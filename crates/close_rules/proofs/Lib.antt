@@ -20,3 +20,8 @@ pub mod Evasion
 pub mod Refuted
 pub mod Found
 pub mod Kids
+pub mod CompleteRows
+pub mod Unrefuted
+pub mod ShownRules
+pub mod ShownSolution
+pub mod Evaded

@@ -1,5 +1,5 @@
 -- What the tests of a misassignment show.
-use Rattle.std.proofs.Common.{◌≡◌, ◌+◌, ◌<◌, ◌&&◌, ℕ, Bool, true, false, not, List, length, count_by, refl, ap, sym, ◌∙◌, arith}
+use Rattle.std.proofs.Common.{◌≡◌, ◌+◌, ◌<◌, ◌&&◌, ℕ, Bool, true, false, not, List, length, count_by, refl, ap, sym, subst, ◌∙◌, arith}
 use Rattle.std.specs.Prelude.{◌==◌}
 use Rattle.std.specs.List.{list_all, range_with_len}
 use Rattle.std.proofs.lemmas.List.FromFn.{get_or-range_with_len, length-range_with_len}
@@ -9,23 +9,18 @@ use Rattle.lat_base.specs.Misassignment.{IsMisassignment, identity, source}
 use Rattle.lat_misassign.specs.Sources.{AreSources}
 use Rattle.lat_misassign.proofs.Identity.{identity_at, identity_from}
 use Rattle.close_rules.specs.Evading.{is_misassignment, stays}
-use Rattle.close_rules.proofs.Passed.{both, equal, at_number}
+use Rattle.close_rules.proofs.Passed.{both, equal, at_number, each_number}
 
 -- a test that each number below n passes
 all_pass : (test : ℕ → Bool) (n : ℕ) → ((t : ℕ) → t < n → test t ≡ true) → list_all test (range_with_len 0 n) ≡ true
-all_pass test n h =
-    list_all-from_AllPass test (range_with_len 0 n) (λ k d lt.
-    let inside : k < n = omega (arith, lt, length-range_with_len 0 n) in
-    let here : 0 + k ≡ k = omega arith in
-    ap test (get_or-range_with_len 0 n k d inside ∙ here) ∙ h k inside)
+all_pass test n h = each_number test 0 n (λ i lt. let here : 0 + i ≡ i = omega arith in ap test here ∙ h i lt)
 
-is_equal : (a b : ℕ) → a ≡ b → (a == b) ≡ true
+pub is_equal : (a b : ℕ) → a ≡ b → (a == b) ≡ true
 is_equal a b e = grind (arith, nat_tests, e)
 
--- the sources of a misassignment pass its test
-sources_pass : (n : ℕ) (s : List ℕ) → AreSources s → length s ≡ n → is_misassignment n s ≡ true
-sources_pass n s are long =
-    (λ i. is_equal (length s) n long i && all_pass (λ t. count_by (λ x. x == t) s == 1) n (λ t lt. is_equal (count_by (λ x. x == t) s) 1 (are.is.once t (omega (arith, lt, long)))) i)
+-- a misassignment passes the test of one
+pub is_passed : (n : ℕ) (s : List ℕ) → IsMisassignment n s → is_misassignment n s ≡ true
+is_passed n s is = λ i. is_equal (length s) n is.long i && all_pass (λ t. count_by (λ x. x == t) s == 1) n (λ t lt. is_equal (count_by (λ x. x == t) s) 1 (is.once t lt)) i
 
 -- and what passes it is one
 pub passed_is : (n : ℕ) (s : List ℕ) → is_misassignment n s ≡ true → IsMisassignment n s
@@ -43,7 +38,7 @@ pub all_stay : (n : ℕ) (s : List ℕ) → length s ≡ n → s ≡ identity (l
 all_stay n s long e = all_pass (stays s) n (λ u lt. is_equal (source s u) u (identity_at s u (omega (arith, lt, long)) e))
 
 -- and only in it
-stay_identity : (n : ℕ) (s : List ℕ) → length s ≡ n → list_all (stays s) (range_with_len 0 n) ≡ true → s ≡ identity (length s)
+pub stay_identity : (n : ℕ) (s : List ℕ) → length s ≡ n → list_all (stays s) (range_with_len 0 n) ≡ true → s ≡ identity (length s)
 stay_identity n s long h =
     identity_from s (λ u lt.
     let here : 0 + u ≡ u = omega arith in
@@ -63,4 +58,4 @@ other_where n s rest are long other = by_answer (list_all (stays s) (range_with_
   where
     by_answer : (b : Bool) → list_all (stays s) (range_with_len 0 n) ≡ b → rest ≡ (is_misassignment n s && (not (list_all (stays s) (range_with_len 0 n)) && rest))
     by_answer true e = absurd (other (stay_identity n s long e))
-    by_answer false e = λ i. sym (sources_pass n s are long) i && (not (sym e i) && rest)
+    by_answer false e = λ i. sym (is_passed n s (subst (λ (m : ℕ). IsMisassignment m s) long are.is)) i && (not (sym e i) && rest)

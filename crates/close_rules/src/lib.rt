@@ -17,7 +17,7 @@ mod totals;
 
 pub use finding::cheap;
 pub use label::Label;
-pub use law::{kids_share_solutions, refuted_is_empty};
+pub use law::{complete_is_judged, kids_share_solutions, refuted_is_empty};
 pub use reason::Reason;
 pub use refuting::refutes;
 
