@@ -1,9 +1,9 @@
 -- Rows of which each mark is decided.
-use Rattle.std.proofs.Common.{◌≡◌, ◌+◌, ◌-◌, ◌<◌, ◌≤◌, ◌&&◌, ℕ, Bool, true, false, not, cond, nat_lt, nat_le, min, max, List, [], length, get_or, map, count_by, refl, ap, sym, ◌∙◌, arith}
+use Rattle.std.proofs.Common.{◌≡◌, ◌+◌, ◌-◌, ◌<◌, ◌≤◌, ◌&&◌, ℕ, Bool, true, false, not, cond, nat_lt, nat_le, min, max, List, [], length, get_or, map, refl, ap, sym, ◌∙◌, arith}
 use Rattle.std.proofs.lemmas.List.{get_or-map, get_or_default}
 use Rattle.std.proofs.lemmas.Bool.Decides.{nat_tests}
 use Rattle.lat_base.specs.declared.contest.Contest.{Contest}
-use Rattle.lat_base.specs.Shape.{target_count, first_target, contest_at, contest_of}
+use Rattle.lat_base.specs.Shape.{target_count, first_target, contest_of}
 use Rattle.lat_base.specs.Tally.{mark_count, votes_for, own_total}
 use Rattle.lat_base.specs.Tally as tally
 use Rattle.readings.proofs.Counting.{count_alike}

@@ -1,21 +1,17 @@
 -- A misassignment that keeps the report of a complete deck evades.
-use Rattle.std.proofs.Common.{◌≡◌, ◌+◌, ◌<◌, ◌&&◌, ◌||◌, ℕ, Bool, true, false, not, List, [], length, get_or, map, refl, ap, sym, ◌∙◌, arith}
-use Rattle.std.specs.Prelude.{◌==◌}
+use Rattle.std.proofs.Common.{◌≡◌, ◌+◌, ◌<◌, ◌&&◌, ◌||◌, ℕ, Bool, true, false, not, List, length, get_or, refl, ap, sym, ◌∙◌, arith}
 use Rattle.std.specs.List.{list_all, range_with_len}
-use Rattle.std.proofs.lemmas.List.{get_or_default}
 use Rattle.std.proofs.lemmas.List.Sums.{list_all-from_AllPass}
 use Rattle.lat_base.specs.Shape.{target_count, first_target, contest_at}
 use Rattle.lat_base.specs.Misassignment.{IsMisassignment, identity}
 use Rattle.lat_base.specs.Tally.{report, total, own_total}
-use Rattle.readings.specs.Structural.{targets_of}
 use Rattle.readings.proofs.Reports.{report_same}
-use Rattle.deck_state.specs.declared.mark.Mark.{Mark}
 use Rattle.deck_state.specs.Mark.{is_undecided}
 use Rattle.deck_state.specs.PartialDeck.{PartialDeck}
 use Rattle.deck_state.specs.Shown.{IsComplete, shown}
 use Rattle.deck_state.specs.Trail.{IsPartial}
-use Rattle.deck_state.specs.Votes.{marks_in, marked_in, possible_in}
-use Rattle.close_rules.specs.Evading.{stays, is_decided, keeps_total, keeps_totals, is_left, keeps_contest, is_misassignment, evades}
+use Rattle.deck_state.specs.Votes.{marks_in}
+use Rattle.close_rules.specs.Evading.{stays, is_decided, keeps_total, keeps_totals, is_left, keeps_contest, evades}
 use Rattle.close_rules.proofs.Along.{inside}
 use Rattle.close_rules.proofs.CompleteRows.{decided_row, possible_is}
 use Rattle.close_rules.proofs.DecidedRows.{all_decided}

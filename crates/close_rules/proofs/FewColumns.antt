@@ -6,19 +6,15 @@ use Rattle.std.proofs.Math.Pow.{pow_mono}
 use Rattle.std.proofs.lemmas.List.Elements.{All-cons, All-nil}
 use Rattle.std.proofs.lemmas.List.Sums.{sum_by-cons}
 use Rattle.std.proofs.lemmas.Bool.{cases_lt}
-use Rattle.std.proofs.lemmas.Bool.Decides.{nat_tests}
 use Rattle.lat_base.specs.Tally.{is_marked}
 use Rattle.readings.proofs.Counting.{split_count}
-use Rattle.close_rules.proofs.Passed.{both, not_true}
+use Rattle.close_rules.proofs.Passed.{both, not_true, is_not_less}
 
 -- eight ballots have a column for each target
 pub many_columns : (k n : ℕ) → 8 ≤ k → n ≤ 256 → nat_lt k 8 ≡ nat_lt (2 ^ k) n
 many_columns k n h few =
     let many : 2 ^ 8 ≤ 2 ^ k = pow_mono h in
-    not_less k 8 h ∙ sym (not_less (2 ^ k) n (omega (arith, many, few)))
-  where
-    not_less : (a b : ℕ) → b ≤ a → nat_lt a b ≡ false
-    not_less a b le = grind (arith, nat_tests)
+    is_not_less k 8 h ∙ sym (is_not_less (2 ^ k) n (omega (arith, many, few)))
 
 -- all pass the test that is always true
 pub all_counted : (ns : List ℕ) → count_by (λ n. true) ns ≡ length ns

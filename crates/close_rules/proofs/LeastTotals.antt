@@ -1,5 +1,5 @@
 -- The totals of a contest in a solution are at least its least totals.
-use Rattle.std.proofs.Common.{◌≡◌, ◌+◌, ◌<◌, ◌≤◌, ◌||◌, ℕ, zero, suc, Bool, true, false, nat_lt, max, List, [], length, get_or, map, count_by, subst, refl, sym, ap, ◌∙◌, arith}
+use Rattle.std.proofs.Common.{◌≡◌, ◌+◌, ◌<◌, ◌≤◌, ◌||◌, ℕ, zero, suc, Bool, true, nat_lt, max, List, [], length, get_or, map, count_by, subst, refl, sym, ap, ◌∙◌, arith}
 use Rattle.std.specs.List.{range_with_len, sum}
 use Rattle.std.proofs.lemmas.List.Sums.{sum_by-cons}
 use Rattle.lat_base.specs.Shape.{target_count, first_target, contest_at, contest_of}
@@ -14,7 +14,7 @@ use Rattle.deck_state.proofs.Enclosed.{lo_le, le_hi, own_votes}
 use Rattle.close_rules.specs.Totals.{is_above, least_rising, least_totals, highs, most_voting, has_no_totals}
 use Rattle.close_rules.specs.Solution.{IsSolution}
 use Rattle.close_rules.proofs.Along.{inside}
-use Rattle.close_rules.proofs.Passed.{both, less, is_not_less}
+use Rattle.close_rules.proofs.Passed.{both, less, is_not_less, second}
 use Rattle.close_rules.proofs.Voting.{is_voting, few_voting, vote_is_voting}
 
 -- no total of a solution is above the ballots that can vote in its contest
@@ -66,10 +66,6 @@ first_of low high most from t n totals are =
     next : (i : ℕ) → t + (i + 1) ≡ t + 1 + i
     next i = omega arith
 
-second_of : (a b : Bool) → a || b ≡ true → a ≡ false → b ≡ true
-second_of true b h e = cc
-second_of false b h e = h
-
 -- of such totals, no least one is above what it can be
 none_above : (low high : ℕ → ℕ) (most from t n : ℕ) (totals : ℕ → ℕ) → AreRising low high most from t n totals → is_above most (least_rising from (map low (range_with_len t n))) (map high (range_with_len t n)) ≡ true → ⊥
 none_above low high most from t zero totals are h = cc
@@ -78,8 +74,8 @@ none_above low high most from t (suc n) totals are h =
     let x = max from (low t) in
     let rest = is_above most (least_rising (x + 1) (map low (range_with_len (t + 1) n))) (map high (range_with_len (t + 1) n)) in
     none_above low high most (x + 1) (t + 1) n totals first.rest
-    (second_of (nat_lt most x) rest
-    (second_of (nat_lt (high t) x) (nat_lt most x || rest) h (is_not_less (high t) x (omega (arith, first.least, first.below))))
+    (second (nat_lt most x) rest
+    (second (nat_lt (high t) x) (nat_lt most x || rest) h (is_not_less (high t) x (omega (arith, first.least, first.below))))
     (is_not_less most x (omega (arith, first.least, first.few))))
 
 -- and their sum is at least that of the least ones

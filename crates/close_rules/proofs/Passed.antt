@@ -1,5 +1,5 @@
 -- What tests show.
-use Rattle.std.proofs.Common.{◌≡◌, ◌+◌, ◌<◌, ◌≤◌, ◌&&◌, ℕ, Bool, true, false, not, nat_lt, refl, ap, sym, ◌∙◌, arith}
+use Rattle.std.proofs.Common.{◌≡◌, ◌+◌, ◌<◌, ◌≤◌, ◌&&◌, ◌||◌, ℕ, Bool, true, false, not, nat_lt, refl, ap, sym, ◌∙◌, arith}
 use Rattle.std.specs.Prelude.{◌==◌}
 use Rattle.std.specs.List.{list_all, range_with_len}
 use Rattle.std.proofs.lemmas.List.FromFn.{get_or-range_with_len, length-range_with_len}
@@ -14,6 +14,14 @@ both false b h = cc
 pub not_true : (b : Bool) → not b ≡ true → b ≡ false
 not_true true h = cc
 not_true false h = refl
+
+pub not_second : (a b : Bool) → (a && b) ≡ false → a ≡ true → b ≡ false
+not_second true b h e = h
+not_second false b h e = cc
+
+pub second : (a b : Bool) → a || b ≡ true → a ≡ false → b ≡ true
+second true b h e = cc
+second false b h e = h
 
 pub is_not : (b : Bool) → b ≡ false → not b ≡ true
 is_not b h = ap not h

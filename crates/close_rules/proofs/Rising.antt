@@ -1,15 +1,9 @@
 -- The least totals of a contest, one after another.
-use Rattle.std.proofs.Common.{◌≡◌, ◌+◌, ◌<◌, ◌≤◌, ◌||◌, ℕ, suc, Bool, true, false, nat_lt, max, map, refl, ap, sym, ◌∙◌, arith}
+use Rattle.std.proofs.Common.{◌≡◌, ◌+◌, ◌<◌, ◌≤◌, ◌||◌, ℕ, suc, Bool, true, false, nat_lt, max, map, refl, ap, sym, ◌∙◌}
 use Rattle.std.specs.List.{range_with_len, sum}
 use Rattle.std.proofs.lemmas.List.Sums.{sum_by-cons}
-use Rattle.std.proofs.lemmas.Bool.Decides.{nat_tests}
 use Rattle.close_rules.specs.Totals.{is_above, least_rising}
-
-not_less : (a b : ℕ) → b ≤ a → nat_lt a b ≡ false
-not_less a b h = grind (arith, nat_tests)
-
-is_less : (a b : ℕ) → a < b → nat_lt a b ≡ true
-is_less a b h = grind (arith, nat_tests)
+use Rattle.close_rules.proofs.Passed.{is_less, is_not_less}
 
 first_or : (a rest : Bool) → a ≡ true → a || rest ≡ true
 first_or a rest e = λ i. e i || rest
@@ -27,7 +21,7 @@ pub further : (low high : ℕ → ℕ) (most from t u n m x : ℕ) → n ≡ suc
     → above_from low high most (x + 1) u m ≡ above_from low high most from t n
 further low high most from t u n m x n_is u_is x_is fits few =
     ap (λ (v : ℕ). above_from low high most (x + 1) v m) u_is
-    ∙ ((λ i. sym (not_less (high t) x fits) i || (sym (not_less most x few) i || above_from low high most (x + 1) (t + 1) m))
+    ∙ ((λ i. sym (is_not_less (high t) x fits) i || (sym (is_not_less most x few) i || above_from low high most (x + 1) (t + 1) m))
     ∙ (ap (λ (y : ℕ). nat_lt (high t) y || (nat_lt most y || above_from low high most (y + 1) (t + 1) m)) x_is
     ∙ ap (λ (k : ℕ). above_from low high most from t k) (sym n_is)))
 

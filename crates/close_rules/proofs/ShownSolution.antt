@@ -1,10 +1,8 @@
 -- A complete partial deck for which no reason holds shows a good canonical deck.
-use Rattle.std.proofs.Common.{◌≡◌, ◌≢◌, ◌+◌, ◌-◌, ◌<◌, ◌≤◌, ◌&&◌, ◌||◌, ℕ, zero, suc, Bool, true, false, not, nat_lt, List, [], length, map, refl, ap, sym, subst, ◌∙◌, arith}
+use Rattle.std.proofs.Common.{◌≡◌, ◌+◌, ◌-◌, ◌<◌, ◌&&◌, ℕ, zero, suc, Bool, true, false, nat_lt, length, ap, sym, subst, ◌∙◌, arith}
 use Rattle.std.specs.Prelude.{◌==◌}
-use Rattle.std.specs.List.{list_all, range_with_len}
 use Rattle.std.specs.Ordering.{nat_cmp, is_gt}
 use Rattle.std.specs.Cmp.Lexicographic.{slice_cmp}
-use Rattle.std.specs.declared.cmp.Ordering.{Ordering}
 use Rattle.std.specs.declared.cmp.Ordering.TheVariants.{Greater}
 use Rattle.lat_base.specs.declared.contest.Contest.{Contest}
 use Rattle.lat_base.specs.Shape.{target_count, first_target, contest_at, contest_of}
@@ -12,7 +10,6 @@ use Rattle.lat_base.specs.Tally.{own_total}
 use Rattle.lat_base.specs.Canonical.{IsCanonical, totals_in}
 use Rattle.lat_base.specs.Goodness.{IsRobust}
 use Rattle.lat_base.specs.Rules.{Obeys}
-use Rattle.readings.specs.Structural.{targets_of}
 use Rattle.readings.proofs.Places.{is_of, contest_is}
 use Rattle.readings.proofs.Reports.{alike}
 use Rattle.deck_state.specs.PartialDeck.{PartialDeck}
@@ -22,14 +19,14 @@ use Rattle.deck_state.specs.Votes.{lo, hi}
 use Rattle.deck_state.proofs.ShownDecks.{shown_size, shown_fits, shown_agrees}
 use Rattle.close_rules.specs.declared.reason.Reason.{Reason}
 use Rattle.close_rules.specs.declared.reason.Reason.TheVariants.{Order, Totals, Blank, Over, ContestOrder}
-use Rattle.close_rules.specs.Fixed.{lows, is_fixed, has_shape_of, are_comparable, are_out_of_order}
+use Rattle.close_rules.specs.Fixed.{lows, is_fixed, has_shape_of, are_comparable}
 use Rattle.close_rules.specs.Refutes.{refutes, IsCheap}
 use Rattle.close_rules.specs.Solution.{IsSolution}
 use Rattle.close_rules.proofs.Along.{inside}
 use Rattle.close_rules.proofs.CompleteRows.{lo_is, hi_is}
 use Rattle.close_rules.proofs.FixedTotals.{totals_are}
 use Rattle.close_rules.proofs.Misassigned.{is_equal}
-use Rattle.close_rules.proofs.Passed.{is_less, each_number}
+use Rattle.close_rules.proofs.Passed.{is_less, each_number, not_second}
 use Rattle.close_rules.proofs.ShownRules.{blank_enough, over_enough, in_order}
 use Rattle.close_rules.proofs.Unrefuted.{AreFine, totals_fine, totals_rise}
 
@@ -97,12 +94,8 @@ lows_known p c left h =
 all_true : (a b c d e : Bool) → a ≡ true → b ≡ true → c ≡ true → d ≡ true → e ≡ true → (a && (b && (c && (d && e)))) ≡ true
 all_true a b c d e h i j k l = λ x. h x && (i x && (j x && (k x && l x)))
 
-same_shape : (c d : Contest) → c ≡ d → has_shape_of c d ≡ true
-same_shape c d e = λ i. is_equal c.limit d.limit (ap (λ (x : Contest). x.limit) e) i && is_equal c.targets d.targets (ap (λ (x : Contest). x.targets) e) i
-
-not_second : (a b : Bool) → (a && b) ≡ false → a ≡ true → b ≡ false
-not_second true b h e = h
-not_second false b h e = cc
+shape_passes : (c d : Contest) → c ≡ d → has_shape_of c d ≡ true
+shape_passes c d e = λ i. is_equal c.limit d.limit (ap (λ (x : Contest). x.limit) e) i && is_equal c.targets d.targets (ap (λ (x : Contest). x.targets) e) i
 
 -- the deck is canonical
 shown_canonical : (p : PartialDeck) → IsLeft p → IsCanonical p.contests (shown p)
@@ -112,7 +105,7 @@ shown_canonical p left = record {
   earlier = λ c d lt h shape greater.
       let c_in : c < length p.contests = omega (arith, lt, h) in
       let comparable = all_true (nat_lt c d) (nat_lt d (length p.contests)) (has_shape_of (contest_at p.contests c) (contest_at p.contests d)) (is_fixed p c) (is_fixed p d)
-      (is_less c d lt) (is_less d (length p.contests) h) (same_shape (contest_at p.contests c) (contest_at p.contests d) shape) (fixed p c left c_in) (fixed p d left h) in
+      (is_less c d lt) (is_less d (length p.contests) h) (shape_passes (contest_at p.contests c) (contest_at p.contests d) shape) (fixed p c left c_in) (fixed p d left h) in
       let first = lows_known p c left c_in in
       let second = lows_known p d left h in
       let compared : slice_cmp nat_cmp (lows p c) (lows p d) ≡ Greater = (λ i. slice_cmp nat_cmp (sym first i) (sym second i)) ∙ greater in

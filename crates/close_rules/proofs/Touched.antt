@@ -1,5 +1,5 @@
 -- The contests that a misassignment touches, and those that it leaves.
-use Rattle.std.proofs.Common.{◌≡◌, ◌+◌, ◌-◌, ◌<◌, ◌||◌, ◌&&◌, ℕ, Bool, true, false, not, nat_lt, List, length, get_or, count_by, refl, ap, sym, subst, ◌∙◌, arith}
+use Rattle.std.proofs.Common.{◌≡◌, ◌+◌, ◌-◌, ◌<◌, ◌&&◌, ℕ, Bool, true, false, not, nat_lt, List, length, get_or, count_by, refl, ap, sym, subst, ◌∙◌, arith}
 use Rattle.std.specs.List.{list_all, range_with_len}
 use Rattle.std.proofs.lemmas.List.FromFn.{get_or-range_with_len, length-range_with_len}
 use Rattle.lat_base.specs.declared.contest.Contest.{Contest}
@@ -14,7 +14,7 @@ use Rattle.readings.proofs.Marks.{marks_are}
 use Rattle.deck_state.specs.PartialDeck.{PartialDeck}
 use Rattle.close_rules.specs.Evading.{stays, keeps_totals, is_left, keeps_contest, is_misassignment, evades}
 use Rattle.close_rules.proofs.Misassigned.{passed_is}
-use Rattle.close_rules.proofs.Passed.{both, equal, at_number}
+use Rattle.close_rules.proofs.Passed.{both, equal, at_number, second}
 
 -- a vote rests on the marks of one contest
 pub votes_alike : (contests : List Contest) (a b : List Bool) (u : ℕ) → u < target_count contests → length a ≡ target_count contests → length b ≡ target_count contests
@@ -47,10 +47,6 @@ at_target contests test u h all =
     let first = first_target contests (contest_of contests u) in
     let place : first + (u - first) ≡ u = omega (arith, of.from) in
     ap test (sym place) ∙ at_number test first (contest_at contests (contest_of contests u)).targets (u - first) all (omega (arith, of.from, of.to, first_next contests (contest_of contests u) of.contest))
-
-second : (a b : Bool) → a || b ≡ true → a ≡ false → b ≡ true
-second true b h e = cc
-second false b h e = h
 
 pub touches : (p : PartialDeck) (s : List ℕ) → evades p s ≡ true → Touches p s
 touches p s h =

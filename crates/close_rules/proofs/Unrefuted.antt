@@ -1,16 +1,16 @@
 -- A complete partial deck for which no reason holds shows a good canonical deck: totals.
-use Rattle.std.proofs.Common.{◌≡◌, ◌≢◌, ◌+◌, ◌-◌, ◌<◌, ◌≤◌, ◌||◌, ◌&&◌, ℕ, zero, suc, Bool, true, false, nat_lt, max, min, List, length, map, refl, ap, sym, subst, ◌∙◌, arith}
+use Rattle.std.proofs.Common.{◌≡◌, ◌+◌, ◌-◌, ◌<◌, ◌≤◌, ◌||◌, ℕ, zero, suc, Bool, true, false, nat_lt, max, length, map, refl, sym, subst, arith}
 use Rattle.std.specs.List.{range_with_len}
 use Rattle.lat_base.specs.Shape.{target_count, first_target, contest_at, contest_of}
 use Rattle.lat_base.specs.Tally.{own_total}
-use Rattle.readings.proofs.Places.{is_of, first_next, first_le}
+use Rattle.readings.proofs.Places.{is_of, first_next}
 use Rattle.deck_state.specs.PartialDeck.{PartialDeck, bounds_at}
 use Rattle.deck_state.specs.Shown.{IsComplete, shown}
 use Rattle.deck_state.specs.Trail.{IsPartial}
 use Rattle.deck_state.specs.Votes.{lo, hi}
 use Rattle.close_rules.specs.Totals.{is_above, least_rising, least_totals, highs, most_voting, has_no_totals}
 use Rattle.close_rules.proofs.CompleteRows.{lo_is, hi_is}
-use Rattle.close_rules.proofs.Passed.{is_less, not_less}
+use Rattle.close_rules.proofs.Passed.{is_less, not_less, not_second}
 
 -- n totals from target t on can rise from a number on, between the least and the greatest ones
 pub record CanRise (low high : ℕ → ℕ) (from t n : ℕ) : Type 0 where
@@ -66,14 +66,10 @@ pub record AreFine (p : PartialDeck) (t : ℕ) : Type 0 where
   pub below : own_total p.contests (shown p) t ≤ (bounds_at p t).high
   pub least : p.rules.least ≤ own_total p.contests (shown p) t
 
-not_both : (a b : Bool) → (a && b) ≡ false → a ≡ true → b ≡ false
-not_both true b h e = h
-not_both false b h e = cc
-
 contest_rises : (p : PartialDeck) (c : ℕ) → c < length p.contests → has_no_totals p c ≡ false → CanRise (lo p) (hi p) p.rules.least (first_target p.contests c) (contest_at p.contests c).targets
 contest_rises p c h none =
     can_rise (lo p) (hi p) (most_voting p c) p.rules.least (first_target p.contests c) (contest_at p.contests c).targets
-    (not_both (nat_lt c (length p.contests)) (is_above (most_voting p c) (least_totals p c) (highs p c)) none (is_less c (length p.contests) h))
+    (not_second (nat_lt c (length p.contests)) (is_above (most_voting p c) (least_totals p c) (highs p c)) none (is_less c (length p.contests) h))
 
 pub totals_fine : (p : PartialDeck) (t : ℕ) → IsPartial p → IsComplete p → ((c : ℕ) → has_no_totals p c ≡ false) → t < target_count p.contests → AreFine p t
 totals_fine p t is complete none h =
