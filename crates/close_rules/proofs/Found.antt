@@ -1,0 +1,35 @@
+-- What is found where reasons are tried one by one.
+use Rattle.std.proofs.Common.{◌≡◌, ℕ, true, false, Option, Some, None, refl, sym, ◌∙◌}
+use Rattle.std.specs.Prelude.{◌↔◌}
+use Rattle.deck_state.specs.PartialDeck.{PartialDeck}
+use Rattle.close_rules.specs.declared.reason.Reason.{Reason}
+use Rattle.close_rules.specs.declared.reason.Reason.TheVariants.{Order, Totals, Capacity, Blank, Over, Twin, ContestOrder, Pigeon, Columns, Same, Evade}
+use Rattle.close_rules.specs.Refutes.{refutes, IsCheap, Closes}
+
+-- each kind of reason was tried
+pub record AreTried (p : PartialDeck) : Type 0 where
+  pub columns : refutes p Columns ≡ false
+  pub blank : refutes p Blank ≡ false
+  pub order : (j : ℕ) → refutes p (Order j) ≡ false
+  pub contest : (c : ℕ) → (refutes p (Totals c) ≡ false) × (refutes p (Capacity c) ≡ false) × (refutes p (Over c) ≡ false)
+  pub same : (t u : ℕ) → refutes p (Same t u) ≡ false
+  pub pair : (c d : ℕ) → (refutes p (Twin c d) ≡ false) × (refutes p (ContestOrder c d) ≡ false)
+
+-- so no reason without a misassignment holds
+pub none_holds : (p : PartialDeck) → AreTried p → (r : Reason) → IsCheap r → refutes p r ≡ false
+none_holds p tried (Order j) is = tried.order j
+none_holds p tried (Totals c) is = (tried.contest c).0
+none_holds p tried (Capacity c) is = (tried.contest c).1
+none_holds p tried Blank is = tried.blank
+none_holds p tried (Over c) is = (tried.contest c).2
+none_holds p tried (Twin c d) is = (tried.pair c d).0
+none_holds p tried (ContestOrder c d) is = (tried.pair c d).1
+none_holds p tried (Pigeon c) is = refl
+none_holds p tried Columns is = tried.columns
+none_holds p tried (Same t u) is = tried.same t u
+none_holds p tried (Evade s) is = absurd is
+
+-- nothing is found exactly where none holds
+pub exactly : (p : PartialDeck) (result : Option Reason) → (result ≡ None → (r : Reason) → IsCheap r → refutes p r ≡ false) → ((r : Reason) → result ≡ Some r → Closes p r) → (result ≡ None) ↔ ((r : Reason) → IsCheap r → refutes p r ≡ false)
+exactly p None none some = (none, λ h. refl)
+exactly p (Some r) none some = (none, λ h. let closes = some r refl in let bad : true ≡ false = sym closes.1 ∙ h r closes.0 in cc)

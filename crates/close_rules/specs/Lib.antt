@@ -1,0 +1,10 @@
+pub mod Solution
+pub mod Moves
+pub mod Order
+pub mod Columns
+pub mod Fixed
+pub mod Totals
+pub mod Ballots
+pub mod Capacity
+pub mod Evading
+pub mod Refutes

@@ -1,0 +1,74 @@
+ghost use Rattle.std.specs.Prelude.{◌≡◌, ◌<◌, ◌≤◌, length, count_by, nat_lt};
+ghost use Rattle.std.specs.List.{sum};
+ghost use Rattle.lat_base.specs.Shape.{target_count};
+ghost use Rattle.deck_state.specs.PartialDeck.{PartialDeck};
+ghost use Rattle.close_rules.specs.Totals.{least_totals};
+ghost use Rattle.close_rules.specs.Capacity.{most_votes, capacity, has_no_capacity};
+
+use crate::totals::most_voting;
+use deck_state::{Mark, Partial, marked_in, possible_in};
+use lat_base::Shape;
+
+// How many votes a row can give in contest c.
+fn most_votes(shape: &Shape, c: u16, row: &[Mark]) -> u16
+    requires contest { c < length shape.now }
+    requires long { length row.now ≡ target_count shape.now }
+    ensures { result ≡ most_votes shape.now c row.now }
+{
+    let limit = shape.contest(c).limit;
+    if marked_in(shape, row, c) > limit {
+        0
+    } else {
+        limit.min(possible_in(shape, row, c))
+    }
+}
+
+// How many ballots can give more than so many votes in contest c.
+fn count_above(state: &Partial, c: u16, votes: u16) -> u16
+    requires { c < length state.now.contests }
+    ensures value { result ≡ count_by (λ row. nat_lt votes (most_votes state.now.contests c row)) state.now.marks }
+    ensures few { result ≤ 1024 }
+{
+    let mut above: u16 = 0;
+    for j in 0..state.ballots() {
+        above += u16::from(most_votes(state.shape(), c, state.row(j)) > votes);
+    }
+    above
+}
+
+// How many votes contest c can have in all: the first votes of its ballots, the second ones, and so on.
+fn capacity(state: &Partial, c: u16) -> u32
+    requires { c < length state.now.contests }
+    ensures { result ≡ capacity state.now c }
+{
+    let most = most_voting(state, c);
+    let mut sum: u32 = 0;
+    for votes in 0..state.shape().contest(c).limit {
+        sum += u32::from(most.min(count_above(state, c, votes)));
+    }
+    sum
+}
+
+// The sum of the least totals of contest c.
+fn sum_of_least(state: &Partial, c: u16) -> u32
+    requires { c < length state.now.contests }
+    ensures { result ≡ sum (least_totals state.now c) }
+{
+    let first = state.shape().first_of(c);
+    let targets = state.shape().contest(c).targets;
+    let mut from = state.rules().least();
+    let mut sum: u32 = 0;
+    for i in 0..targets {
+        let least = from.max(state.lo(first + i));
+        sum += u32::from(least);
+        from = least + 1;
+    }
+    sum
+}
+
+/// Whether the least totals of contest `c` are more votes than it can have.
+pub fn has_no_capacity(state: &Partial, c: u16) -> bool
+    ensures { result ≡ has_no_capacity state.now c }
+{
+    c < state.shape().contests() && capacity(state, c) < sum_of_least(state, c)
+}

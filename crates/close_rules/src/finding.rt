@@ -1,0 +1,149 @@
+ghost use Rattle.std.specs.Prelude.{◌≡◌, ◌↔◌, ℕ, None, Some, false};
+ghost use Rattle.deck_state.specs.PartialDeck.{PartialDeck};
+ghost use Rattle.close_rules.specs.declared.reason.Reason.{Reason};
+ghost use Rattle.close_rules.specs.Refutes.{refutes, IsCheap, Closes};
+
+use crate::{Reason, refutes};
+use deck_state::Partial;
+
+// The reason, where it holds.
+fn tested(state: &Partial, reason: Reason) -> Option<Reason>
+    requires { IsCheap reason }
+    ensures none { result ≡ None → refutes state.now reason ≡ false }
+    ensures some { (r : Reason) → result ≡ Some r → Closes state.now r }
+{
+    if refutes(state, &reason) {
+        Some(reason)
+    } else {
+        None
+    }
+}
+
+// A ballot that is out of order.
+fn find_order(state: &Partial) -> Option<Reason>
+    ensures none { result ≡ None → (j : ℕ) → refutes state.now (Reason.Order j) ≡ false }
+    ensures some { (r : Reason) → result ≡ Some r → Closes state.now r }
+{
+    for j in 0..state.ballots() {
+        if let Some(reason) = tested(state, Reason::Order(j)) {
+            return Some(reason);
+        }
+    }
+    None
+}
+
+// A contest whose totals can't be, or have no room, or that too few ballots overvote.
+fn find_in_contest(state: &Partial, c: u16) -> Option<Reason>
+    ensures none { result ≡ None → (refutes state.now (Reason.Totals c) ≡ false) × (refutes state.now (Reason.Capacity c) ≡ false) × (refutes state.now (Reason.Over c) ≡ false) }
+    ensures some { (r : Reason) → result ≡ Some r → Closes state.now r }
+{
+    if let Some(reason) = tested(state, Reason::Totals(c)) {
+        return Some(reason);
+    }
+    if let Some(reason) = tested(state, Reason::Capacity(c)) {
+        return Some(reason);
+    }
+    tested(state, Reason::Over(c))
+}
+
+fn find_contest(state: &Partial) -> Option<Reason>
+    ensures none { result ≡ None → (c : ℕ) → (refutes state.now (Reason.Totals c) ≡ false) × (refutes state.now (Reason.Capacity c) ≡ false) × (refutes state.now (Reason.Over c) ≡ false) }
+    ensures some { (r : Reason) → result ≡ Some r → Closes state.now r }
+{
+    for c in 0..state.shape().contests() {
+        if let Some(reason) = find_in_contest(state, c) {
+            return Some(reason);
+        }
+    }
+    None
+}
+
+// Two contests that are twins, or out of order.
+fn find_in_pair(state: &Partial, c: u16, d: u16) -> Option<Reason>
+    ensures none { result ≡ None → (refutes state.now (Reason.Twin c d) ≡ false) × (refutes state.now (Reason.ContestOrder c d) ≡ false) }
+    ensures some { (r : Reason) → result ≡ Some r → Closes state.now r }
+{
+    if let Some(reason) = tested(state, Reason::Twin(c, d)) {
+        return Some(reason);
+    }
+    tested(state, Reason::ContestOrder(c, d))
+}
+
+fn find_pair_with(state: &Partial, c: u16) -> Option<Reason>
+    ensures none { result ≡ None → (d : ℕ) → (refutes state.now (Reason.Twin c d) ≡ false) × (refutes state.now (Reason.ContestOrder c d) ≡ false) }
+    ensures some { (r : Reason) → result ≡ Some r → Closes state.now r }
+{
+    for d in 0..state.shape().contests() {
+        if let Some(reason) = find_in_pair(state, c, d) {
+            return Some(reason);
+        }
+    }
+    None
+}
+
+fn find_pair(state: &Partial) -> Option<Reason>
+    ensures none { result ≡ None → (c d : ℕ) → (refutes state.now (Reason.Twin c d) ≡ false) × (refutes state.now (Reason.ContestOrder c d) ≡ false) }
+    ensures some { (r : Reason) → result ≡ Some r → Closes state.now r }
+{
+    for c in 0..state.shape().contests() {
+        if let Some(reason) = find_pair_with(state, c) {
+            return Some(reason);
+        }
+    }
+    None
+}
+
+// A target with the same marks as target t.
+fn find_same_as(state: &Partial, t: u16) -> Option<Reason>
+    ensures none { result ≡ None → (u : ℕ) → refutes state.now (Reason.Same t u) ≡ false }
+    ensures some { (r : Reason) → result ≡ Some r → Closes state.now r }
+{
+    for u in 0..state.shape().targets() {
+        if let Some(reason) = tested(state, Reason::Same(t, u)) {
+            return Some(reason);
+        }
+    }
+    None
+}
+
+fn find_same(state: &Partial) -> Option<Reason>
+    ensures none { result ≡ None → (t u : ℕ) → refutes state.now (Reason.Same t u) ≡ false }
+    ensures some { (r : Reason) → result ≡ Some r → Closes state.now r }
+{
+    for t in 0..state.shape().targets() {
+        if let Some(reason) = find_same_as(state, t) {
+            return Some(reason);
+        }
+    }
+    None
+}
+
+fn find_reason(state: &Partial) -> Option<Reason>
+    ensures none { result ≡ None → (r : Reason) → IsCheap r → refutes state.now r ≡ false }
+    ensures some { (r : Reason) → result ≡ Some r → Closes state.now r }
+{
+    if let Some(reason) = tested(state, Reason::Columns) {
+        return Some(reason);
+    }
+    if let Some(reason) = tested(state, Reason::Blank) {
+        return Some(reason);
+    }
+    if let Some(reason) = find_order(state) {
+        return Some(reason);
+    }
+    if let Some(reason) = find_contest(state) {
+        return Some(reason);
+    }
+    if let Some(reason) = find_same(state) {
+        return Some(reason);
+    }
+    find_pair(state)
+}
+
+/// A reason other than `Evade` that holds of the partial deck, or None where no such reason does.
+pub fn cheap(state: &Partial) -> Option<Reason>
+    ensures none { (result ≡ None) ↔ ((r : Reason) → IsCheap r → refutes state.now r ≡ false) }
+    ensures some { (r : Reason) → result ≡ Some r → Closes state.now r }
+{
+    find_reason(state)
+}
