@@ -1,0 +1,3 @@
+pub mod Reordering
+pub mod Order
+pub mod Counted

@@ -1,0 +1,19 @@
+//! Canonical decks: of all reorderings of a deck's ballots, of the targets within its contests and of
+//! contests of the same limit and number of targets, one.
+#![tactic(auto)]
+
+mod canonical_copy;
+mod canonical_test;
+mod contest_order;
+mod counted;
+mod law;
+mod places;
+mod relabelling;
+mod target_order;
+
+pub use canonical_copy::canonical;
+pub use canonical_test::is_canonical;
+pub use law::{good_has_canonical, reordering_keeps_good};
+
+#[cfg(test)]
+mod tests;
