@@ -6,7 +6,6 @@ pub mod GoodDecks
 pub mod CanonicalDecks
 pub mod Orders
 pub mod CanonicalCopies
-pub mod Filled
 pub mod Partly
 pub mod Compared
 pub mod Moved

@@ -4,13 +4,14 @@ ghost use Rattle.lat_base.specs.Canonical.{IsCanonical};
 ghost use Rattle.lat_base.specs.Goodness.{IsGood};
 ghost use Rattle.lat_base.specs.Rules.{RuleSet};
 ghost use Rattle.symmetry.specs.Reordering.{IsReordered};
-ghost use Rattle.symmetry.specs.Counted.{AreOrdered, IsMoved, total_at};
+ghost use Rattle.symmetry.specs.Counted.{IsMoved, total_at};
+ghost use Rattle.symmetry.specs.Ordered.{AreOrdered};
 ghost use Rattle.symmetry.specs.Order.{RiseWithin, AreEarlier};
 
 use crate::contest_order::order_contests;
-use crate::counted::{Counted, count_targets};
-use crate::relabelling::relabel;
+use crate::counted::{Counted, count_targets, list_targets};
 use crate::target_order::order_targets;
+use deck_reading::read_deck;
 use lat_ballots::Deck;
 use lat_base::Shape;
 use std::alloc::{AllocError, Global};
@@ -27,14 +28,15 @@ fn order(shape: &Shape, list: &mut [Counted])
     order_contests(shape, list);
 }
 
-// The targets with their totals, in the order in which they are to stand.
-fn ordered_targets(alloc: Global, shape: &Shape, deck: &Deck) -> Result<Vec<Counted>, AllocError>
+// The targets in the order in which they are to stand.
+fn ordered_targets(alloc: Global, shape: &Shape, deck: &Deck) -> Result<Vec<u16>, AllocError>
     requires { deck.now.targets ≡ target_count shape.now }
-    ensures { IfOk result (λ list. AreOrdered shape.now deck.now.ballots list.items) }
+    ensures { IfOk result (λ sources. AreOrdered shape.now deck.now.ballots sources.items) }
 {
     let mut list = count_targets(alloc, shape, deck)?;
     order(shape, &mut list);
-    Ok(list)
+    let sources = list_targets(alloc, list.as_slice())?;
+    Ok(sources)
 }
 
 /// The canonical deck that arises by reordering the deck's ballots, the targets within its contests,
@@ -47,8 +49,8 @@ pub fn canonical(alloc: Global, shape: &Shape, deck: Deck) -> Result<Deck, Alloc
     ensures good { IfOk result (λ copy. (rules : RuleSet) → IsGood shape.now rules copy.ballots ↔ IsGood shape.now rules deck.ballots) }
     ensures targets { IfOk result (λ copy. copy.targets ≡ deck.targets) }
 {
-    let list = ordered_targets(alloc, shape, &deck)?;
-    let mut copy = relabel(alloc, &deck, list.as_slice())?;
+    let sources = ordered_targets(alloc, shape, &deck)?;
+    let mut copy = read_deck(alloc, shape, &deck, sources.as_slice())?;
     copy.sort_rows(alloc)?;
     Ok(copy)
 }

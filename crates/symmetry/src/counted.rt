@@ -1,7 +1,7 @@
 ghost use Rattle.std.specs.Prelude.{◌≡◌, map, IfOk};
 ghost use Rattle.std.specs.List.{range_with_len};
 ghost use Rattle.lat_base.specs.Shape.{target_count};
-ghost use Rattle.symmetry.specs.Counted.{counted};
+ghost use Rattle.symmetry.specs.Counted.{counted, targets_in};
 
 use lat_ballots::Deck;
 use lat_base::Shape;
@@ -27,4 +27,15 @@ pub fn count_targets(alloc: Global, shape: &Shape, deck: &Deck) -> Result<Vec<Co
         list.push(Counted { target, total })?;
     }
     Ok(list)
+}
+
+/// The targets alone.
+pub fn list_targets(alloc: Global, list: &[Counted]) -> Result<Vec<u16>, AllocError>
+    ensures { IfOk result (λ targets. targets.items ≡ targets_in list.now) }
+{
+    let mut targets = Vec::with_capacity(alloc, list.len())?;
+    for counted in list {
+        targets.push(counted.target)?;
+    }
+    Ok(targets)
 }

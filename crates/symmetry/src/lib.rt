@@ -8,7 +8,6 @@ mod contest_order;
 mod counted;
 mod law;
 mod places;
-mod relabelling;
 mod target_order;
 
 pub use canonical_copy::canonical;

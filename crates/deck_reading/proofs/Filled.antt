@@ -3,13 +3,11 @@ use Rattle.std.proofs.Common.{◌≡◌, ◌<◌, ◌≤◌, ◌+◌, ◌++◌, 
 use Rattle.std.specs.List.{range_with_len}
 use Rattle.std.proofs.lemmas.List.{drop_more, drop_all, append-nil, append_assoc, length-append, set-set, set-get_or, get_or-set_same, get_or-map, length-map, same_lists}
 use Rattle.std.proofs.lemmas.List.FromFn.{length-map-range_with_len, get_or-map-range_with_len}
-use Rattle.std.proofs.lemmas.Simd.{map-map}
 use Rattle.std.proofs.Math.Seq.{set-append_seam}
+use Rattle.lat_base.specs.Misassignment.{source}
 use Rattle.lat_base.specs.Tally.{is_marked, reading}
 use Rattle.lat_ballots.specs.Deck.{Ballots, ballot_at, mark_at, with_mark}
 use Rattle.readings.proofs.Ranges.{made_more}
-use Rattle.symmetry.specs.declared.counted.Counted.{Counted}
-use Rattle.symmetry.specs.Counted.{counted_at, none_counted, targets_in}
 
 -- the first i elements are what g makes of their places
 abbrev pub filled : {X : Type 0} → (ℕ → X) → List X → ℕ → List X
@@ -40,9 +38,9 @@ places_mapped {X} {Y} f d xs n long =
     let k_in : k < n = omega (arith, lt, whole) in
     get_or-map-range_with_len (λ i. f (get_or xs i d)) 0 n k k e k_in (omega arith) ∙ sym (get_or-map f xs k d e (omega (arith, k_in, long))))
 
--- the mark that a ballot gets at place u
-abbrev pub mark_for : Ballots → List Counted → ℕ → ℕ → Bool
-mark_for deck list j u = mark_at deck j (counted_at list u).target
+-- the mark of the source of target u
+abbrev pub mark_for : Ballots → List ℕ → ℕ → ℕ → Bool
+mark_for deck sources j u = mark_at deck j (source sources u)
 
 -- before any mark is set, a deck is as it was
 pub ballot_first : (copy : Ballots) (g : ℕ → Bool) (j : ℕ) → copy ≡ record copy { ballots = set copy.ballots j (filled g (ballot_at copy j) 0) }
@@ -59,22 +57,21 @@ ballot_more copy now g j u on is j_in u_in mark =
     ∙ (set-set copy.ballots j row (set row u (g u)) ∙ ap (set copy.ballots j) (filled_more g (ballot_at copy j) u u_in)))
 
 -- with all marks, a ballot is the deck's as it is read
-pub ballot_all : (deck copy now : Ballots) (list : List Counted) (j n : ℕ) → now ≡ record copy { ballots = set copy.ballots j (filled (mark_for deck list j) (ballot_at copy j) n) } → length (ballot_at copy j) ≡ n → length list ≡ n
-    → now ≡ record copy { ballots = set copy.ballots j (reading (ballot_at deck j) (targets_in list)) }
-ballot_all deck copy now list j n is row_long list_long =
+pub ballot_all : (deck copy now : Ballots) (sources : List ℕ) (j n : ℕ) → now ≡ record copy { ballots = set copy.ballots j (filled (mark_for deck sources j) (ballot_at copy j) n) } → length (ballot_at copy j) ≡ n → length sources ≡ n
+    → now ≡ record copy { ballots = set copy.ballots j (reading (ballot_at deck j) sources) }
+ballot_all deck copy now sources j n is row_long long =
     is ∙ ap (λ (b : List Bool). record copy { ballots = set copy.ballots j b })
-    (filled_all (mark_for deck list j) (ballot_at copy j) n row_long
-    ∙ (places_mapped (λ (x : Counted). mark_at deck j x.target) none_counted list n list_long ∙ sym (map-map (λ t. is_marked (ballot_at deck j) t) (λ (x : Counted). x.target) list)))
+    (filled_all (mark_for deck sources j) (ballot_at copy j) n row_long ∙ places_mapped (λ t. is_marked (ballot_at deck j) t) 0 sources n long)
 
 -- one more ballot
-pub deck_more : (deck now : Ballots) (s : List ℕ) (j : ℕ) → now ≡ record deck { ballots = filled (λ i. reading (ballot_at deck i) s) deck.ballots j } → j < length deck.ballots
-    → record now { ballots = set now.ballots j (reading (ballot_at deck j) s) } ≡ record deck { ballots = filled (λ i. reading (ballot_at deck i) s) deck.ballots (j + 1) }
-deck_more deck now s j is lt =
-    ap (λ (d : Ballots). record d { ballots = set d.ballots j (reading (ballot_at deck j) s) }) is
-    ∙ ap (λ (bs : List (List Bool)). record deck { ballots = bs }) (filled_more (λ i. reading (ballot_at deck i) s) deck.ballots j lt)
+pub deck_more : (n : ℕ) (start : List (List Bool)) (g : ℕ → List Bool) (now : Ballots) (j : ℕ) → now ≡ record { targets = n; ballots = filled g start j } → j < length start
+    → record now { ballots = set now.ballots j (g j) } ≡ record { targets = n; ballots = filled g start (j + 1) }
+deck_more n start g now j is lt =
+    ap (λ (d : Ballots). record d { ballots = set d.ballots j (g j) }) is ∙ ap (λ (bs : List (List Bool)). record { targets = n; ballots = bs }) (filled_more g start j lt)
 
 -- all ballots
-pub deck_all : (deck now : Ballots) (s : List ℕ) (j : ℕ) → now ≡ record deck { ballots = filled (λ i. reading (ballot_at deck i) s) deck.ballots j } → length deck.ballots ≡ j
-    → now ≡ record deck { ballots = map (λ ballot. reading ballot s) deck.ballots }
-deck_all deck now s j is long =
-    is ∙ ap (λ (bs : List (List Bool)). record deck { ballots = bs }) (filled_all (λ i. reading (ballot_at deck i) s) deck.ballots j long ∙ places_mapped (λ b. reading b s) [] deck.ballots j long)
+pub deck_all : (n : ℕ) (start ballots : List (List Bool)) (sources : List ℕ) (now : Ballots) (j : ℕ) → now ≡ record { targets = n; ballots = filled (λ i. reading (get_or ballots i []) sources) start j } → length start ≡ j → length ballots ≡ j
+    → now ≡ record { targets = n; ballots = map (λ ballot. reading ballot sources) ballots }
+deck_all n start ballots sources now j is start_long long =
+    is ∙ ap (λ (bs : List (List Bool)). record { targets = n; ballots = bs })
+    (filled_all (λ i. reading (get_or ballots i []) sources) start j start_long ∙ places_mapped (λ b. reading b sources) [] ballots j long)
