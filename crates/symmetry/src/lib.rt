@@ -3,7 +3,7 @@
 #![tactic(auto)]
 
 mod canonical_copy;
-mod canonical_test;
+mod canonical_order;
 mod contest_order;
 mod counted;
 mod law;
@@ -11,7 +11,7 @@ mod places;
 mod target_order;
 
 pub use canonical_copy::canonical;
-pub use canonical_test::is_canonical;
+pub use canonical_order::is_canonical;
 pub use law::{good_has_canonical, reordering_keeps_good};
 
 #[cfg(test)]

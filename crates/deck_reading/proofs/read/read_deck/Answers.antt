@@ -1,4 +1,4 @@
-use Rattle.std.proofs.Common.{◌≡◌, ◌<◌, length, false, replicate, arith, ◌∙◌, ap}
+use Rattle.std.proofs.Common.{◌≡◌, length, false, replicate, arith, ◌∙◌, ap}
 use Rattle.std.proofs.lemmas.List.{length-replicate}
 use Rattle.lat_base.specs.Shape.{target_count}
 use Rattle.lat_base.specs.Tally.{reading}
