@@ -83,7 +83,8 @@ fn is_greater(shape: &Shape, deck: &Deck, c: u16, d: u16) -> bool
     false
 }
 
-// Whether contest c's totals aren't greater than those of a later one of its limit and number of targets.
+// Whether contest c's totals aren't greater than those of any later contest of its limit and number of
+// targets.
 fn is_least(shape: &Shape, deck: &Deck, c: u16) -> bool
     requires targets { deck.now.targets ≡ target_count shape.now }
     requires contest { c < length shape.now }
