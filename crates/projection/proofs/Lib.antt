@@ -1,0 +1,5 @@
+pub mod Rising
+pub mod Embedding
+pub mod Cuts
+pub mod Extended
+pub mod GoodParts

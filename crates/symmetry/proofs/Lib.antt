@@ -1,0 +1,14 @@
+pub mod Reorderings
+pub mod InOrder
+pub mod Swaps
+pub mod ContestPlaces
+pub mod GoodDecks
+pub mod CanonicalDecks
+pub mod Orders
+pub mod CanonicalCopies
+pub mod Partly
+pub mod Compared
+pub mod Moved
+pub mod LeastTarget
+pub mod LeastContest
+pub mod Finished

@@ -1,0 +1,32 @@
+use Rattle.std.proofs.Common.{◌<◌, ℕ, List, All, sym, subst, ◌∙◌, ap, length}
+use Rattle.lat_base.specs.Shape.{target_count}
+use Rattle.lat_ballots.specs.Deck.{IsDeck}
+use Rattle.lat_ballots.proofs.Rows.{is_deck}
+use Rattle.symmetry.specs.Ordered.{AreOrdered}
+use Rattle.symmetry.proofs.Moved.{ordered_long, ordered_within}
+use Rattle.symmetry.proofs.Finished.{IsCopy, finished}
+use Rattle.symmetry.proofs.canonical_copy.canonical.Goals as goal
+
+pub read_deck-requires-clause-sources : goal.read_deck-requires-clause-sources
+read_deck-requires-clause-sources c = ap length c.as_slice.ensures.value ∙ ordered_long c.args.shape.now c.args.deck.ballots c.in_ok-sources.sources.items c.in_ok-sources.ensures
+
+pub read_deck-requires-clause-within : goal.read_deck-requires-clause-within
+read_deck-requires-clause-within c =
+    subst (λ (n : ℕ). All (λ t. t < n) c.as_slice.result.now) (sym c.requires)
+    (subst (λ (s : List ℕ). All (λ t. t < target_count c.args.shape.now) s) (sym c.as_slice.ensures.value) (ordered_within c.args.shape.now c.args.deck.ballots c.in_ok-sources.sources.items c.in_ok-sources.ensures))
+
+copied : (c : goal.After-drop-deck-inside-2) → IsCopy c.args.shape.now c.args.deck.ballots c.sort_rows.new.self.ballots
+copied c =
+    finished c.args.shape.now c.args.deck c.in_ok-copy.copy c.sort_rows.new.self c.as_slice.result.now
+    (subst IsDeck c.deck.view_is (is_deck c.deck.inside.targets c.deck.inside.rows.items c.deck.invariant)) c.requires
+    (subst (AreOrdered c.args.shape.now c.args.deck.ballots) (sym c.as_slice.ensures.value) c.in_ok-sources.ensures)
+    c.in_ok-copy.ensures c.sort_rows.ensures.same c.in_ok-sort_rows.ensures.order
+
+pub returns-clause-canonical : goal.returns-clause-canonical
+returns-clause-canonical c = (copied c).canonical
+
+pub returns-clause-reordered : goal.returns-clause-reordered
+returns-clause-reordered c = (copied c).reordered
+
+pub returns-clause-good : goal.returns-clause-good
+returns-clause-good c = (copied c).good

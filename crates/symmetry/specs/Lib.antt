@@ -1,0 +1,4 @@
+pub mod Reordering
+pub mod Order
+pub mod Counted
+pub mod Ordered

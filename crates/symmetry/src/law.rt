@@ -1,0 +1,21 @@
+ghost use Rattle.std.specs.Prelude.{◌≡◌, ◌↔◌, length, Bool, List};
+ghost use Rattle.lat_base.specs.declared.contest.Contest.{Contest};
+ghost use Rattle.lat_base.specs.Shape.{target_count};
+ghost use Rattle.lat_base.specs.Deck.{Fits};
+ghost use Rattle.lat_base.specs.Rules.{RuleSet};
+ghost use Rattle.lat_base.specs.Goodness.{IsGood};
+ghost use Rattle.lat_base.specs.Canonical.{IsCanonical};
+ghost use Rattle.symmetry.specs.Reordering.{IsReordered};
+
+/// A law: every good deck has a canonical good one of the same size. The call does nothing.
+pub fn good_has_canonical()
+    ensures { (contests : List Contest) (rules : RuleSet) (deck : List (List Bool)) → IsGood contests rules deck →
+        (copy : List (List Bool)) × IsCanonical contests copy × IsGood contests rules copy × (length copy ≡ length deck) }
+{}
+
+/// A law: a deck whose ballots, targets within contests, and contests of the same limit and number of
+/// targets are reordered is good exactly where it was before. The call does nothing.
+pub fn reordering_keeps_good()
+    ensures { (contests : List Contest) (rules : RuleSet) (deck result : List (List Bool)) → Fits (target_count contests) deck →
+        IsReordered contests deck result → (IsGood contests rules result ↔ IsGood contests rules deck) }
+{}
