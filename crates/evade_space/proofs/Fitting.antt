@@ -18,7 +18,7 @@ pub record Fitting (n : ℕ) (sources : List (Option ℕ)) (s : List ℕ) : Type
   pub extends : Extends sources s
 
 -- an element of a mapped list that passes is the image of one
-map_true : {X : Type 0} (f : X → Bool) (xs : List X) (i : ℕ) (d : X) → get_or (map f xs) i false ≡ true → (i < length xs) × (f (get_or xs i d) ≡ true)
+pub map_true : {X : Type 0} (f : X → Bool) (xs : List X) (i : ℕ) (d : X) → get_or (map f xs) i false ≡ true → (i < length xs) × (f (get_or xs i d) ≡ true)
 map_true f xs i d h = elim (cases_lt i (length xs)) [
   | inl lt ↦ (lt, sym (get_or-map f xs i d false lt) ∙ h)
   | inr ge ↦ absurd (let long : length (map f xs) ≤ i = omega (arith, length-map xs f) in cc (get_or_past (map f xs) i false long, h))

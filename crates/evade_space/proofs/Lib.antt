@@ -6,6 +6,7 @@ pub mod Fitting
 pub mod Bounds
 pub mod VoteBounds
 pub mod LossBounds
+pub mod NoLoss
 pub mod Laws
 pub mod Whole
 pub mod Found

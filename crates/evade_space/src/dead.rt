@@ -1,4 +1,4 @@
-ghost use Rattle.std.specs.Prelude.{◌≡◌, ◌<◌, ◌≤◌, ◌*◌, ◌^◌, length};
+ghost use Rattle.std.specs.Prelude.{◌≡◌, ◌<◌, ◌≤◌, ◌*◌, ◌^◌, true, length};
 ghost use Rattle.std.specs.List.{list_any, range_with_len};
 ghost use Rattle.lat_base.specs.Shape.{target_count};
 ghost use Rattle.evade_space.specs.Sources.{AreGiven};
@@ -59,12 +59,30 @@ fn any_missed(space: &Evade, sources: &[Option<u16>]) -> bool
     false
 }
 
-// Whether some test shows that no misassignment of the space extends the sources. Image `u`, which
-// got the last one, is looked at first.
+// Whether some image of contest `c` has a source and not the wanted votes.
+fn any_missed_in(space: &Evade, sources: &[Option<u16>], c: u16) -> bool
+    requires sources { AreGiven (target_count space.now.contests) sources.now }
+    requires contest { c < length space.now.contests }
+    ensures { result ≡ true → list_any (is_missed space.now sources.now) (range_with_len 0 (length sources.now)) ≡ true }
+{
+    let _contests = space.shape.contests();
+    for u in space.shape.first_of(c)..space.shape.first_of(c + 1) {
+        if is_missed(space, sources, u) {
+            return true;
+        }
+    }
+    false
+}
+
+// Whether some test shows that no misassignment of the space extends the sources. The contest of
+// image `u`, which got the last one, is looked at first.
 pub fn is_dead(space: &Evade, sources: &[Option<u16>], u: u16) -> bool
     requires sources { AreGiven (target_count space.now.contests) sources.now }
     requires image { u < target_count space.now.contests }
     ensures { result ≡ is_dead space.now sources.now }
 {
-    is_missed(space, sources, u) || is_overspent(space, sources) || any_missed(space, sources)
+    let c = space.shape.contest_of(u);
+    any_missed_in(space, sources, c)
+        || is_overspent(space, sources)
+        || any_missed(space, sources)
 }

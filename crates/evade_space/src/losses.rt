@@ -3,12 +3,13 @@ ghost use Rattle.lat_base.specs.Shape.{target_count};
 ghost use Rattle.evade_space.specs.Sources.{AreGiven};
 ghost use Rattle.evade_space.specs.Losses.{lost_in, lost};
 
-use crate::sets::taken_targets;
+use crate::sets::{given_places, taken_targets};
 use lat_ballots::Deck;
 use lat_base::Shape;
 
-// How many marks are surely lost in contest `c`.
-#[tactic(auto, using(crate::proofs::Counted::lost_more))]
+// How many marks are surely lost in contest `c`: none where no more images have a source than the
+// limit.
+#[tactic(auto, using(crate::proofs::Counted::lost_more, crate::proofs::NoLoss::none_lost))]
 fn lost_in(shape: &Shape, deck: &Deck, sources: &[Option<u16>], c: u16) -> u32
     requires deck { deck.now.targets ≡ target_count shape.now }
     requires sources { AreGiven (target_count shape.now) sources.now }
@@ -17,6 +18,9 @@ fn lost_in(shape: &Shape, deck: &Deck, sources: &[Option<u16>], c: u16) -> u32
     ensures few { result ≤ 256 * 1024 }
 {
     let limit = shape.contest(c).limit;
+    if given_places(shape, sources, c) <= limit {
+        return 0;
+    }
     let taken = taken_targets(shape, sources, c);
     let mut lost: u32 = 0;
     for j in 0..deck.ballots() {

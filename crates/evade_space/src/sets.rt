@@ -1,7 +1,7 @@
 ghost use Rattle.std.specs.Prelude.{◌≡◌, ◌<◌, ◌≤◌, ◌&&◌, ℕ, List, Bool, Some, false, not, nat_lt, length, get_or};
 ghost use Rattle.lat_base.specs.Shape.{target_count};
 ghost use Rattle.lat_ballots.specs.Row.{common_count};
-ghost use Rattle.evade_space.specs.Sources.{source_at, is_used, empty_places, AreGiven};
+ghost use Rattle.evade_space.specs.Sources.{source_at, is_used, given_places, empty_places, AreGiven};
 ghost use Rattle.evade_space.specs.Seen.{taken, free_marks};
 
 use lat_ballots::Row;
@@ -52,6 +52,22 @@ pub fn unused_targets(sources: &[Option<u16>]) -> Row
         }
     }
     set
+}
+
+// How many images of contest `c` have a source.
+#[tactic(auto, using(readings::proofs::Places::first_next))]
+pub fn given_places(shape: &Shape, sources: &[Option<u16>], c: u16) -> u16
+    requires contest { c < length shape.now }
+    requires sources { AreGiven (target_count shape.now) sources.now }
+    ensures { result ≡ given_places shape.now sources.now c }
+{
+    let _contests = shape.contests();
+    let first = shape.first_of(c) as usize;
+    let last = shape.first_of(c + 1) as usize;
+    sources[first..last]
+        .iter()
+        .filter(|source| source.is_some())
+        .count() as u16
 }
 
 // How many images of contest `c` have no source.
