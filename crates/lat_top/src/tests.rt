@@ -1,8 +1,9 @@
+mod attack_tests;
+mod deck_tests;
 mod verify_tests;
 
 use super::*;
 use crate::plain_robust::is_robust;
-use adversary::{Attacked, attack};
 use election_json::{DefFault, Place};
 use lat_ballots::Deck;
 use lat_base::{Contest, Shape};
@@ -307,4 +308,18 @@ fn says_its_status(rt: HostRuntime) -> Result<(), Fail> {
     }
     assert_eq!(rt; Status::Done.code(), 0);
     Ok(())
+}
+
+// The deck of k ballots over four targets with these marks: the first of the first ballot has worth 1.
+fn deck_of(alloc: Global, shape: &Shape, k: u16, marks: u32) -> Result<Deck, Fail> {
+    if k > 3 {
+        return Err(Fail::from("too many ballots"));
+    }
+    let mut deck = Deck::blank(alloc, shape, k)?;
+    for j in 0..k.min(deck.ballots()) {
+        for t in 0..deck.targets().min(4) {
+            deck.set(j, t, (marks >> (4 * j + t)) & 1 == 1);
+        }
+    }
+    Ok(deck)
 }
