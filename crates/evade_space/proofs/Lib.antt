@@ -7,6 +7,8 @@ pub mod Bounds
 pub mod VoteBounds
 pub mod LossBounds
 pub mod NoLoss
+pub mod Unchanged
+pub mod Deaths
 pub mod Laws
 pub mod Whole
 pub mod Found

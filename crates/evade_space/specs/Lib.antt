@@ -5,5 +5,6 @@ pub mod Votes
 pub mod Losses
 pub mod Sought
 pub mod Dead
+pub mod Tried
 pub mod Kids
 pub mod Steps

@@ -316,9 +316,11 @@ fn deck_of(alloc: Global, shape: &Shape, k: u16, marks: u32) -> Result<Deck, Fai
         return Err(Fail::from("too many ballots"));
     }
     let mut deck = Deck::blank(alloc, shape, k)?;
-    for j in 0..k.min(deck.ballots()) {
-        for t in 0..deck.targets().min(4) {
-            deck.set(j, t, (marks >> (4 * j + t)) & 1 == 1);
+    for j in 0..k {
+        for t in 0..4 {
+            if j < deck.ballots() && t < deck.targets() {
+                deck.set(j, t, (marks >> (4 * j + t)) & 1 == 1);
+            }
         }
     }
     Ok(deck)
