@@ -1,16 +1,16 @@
 -- Where no image of its own contest, and none of a contest with an empty place, has missed its votes, no image has.
-use Rattle.std.proofs.Common.{◌≡◌, ◌≢◌, ◌≤◌, ◌<◌, ◌⊎◌, inl, inr, ℕ, Bool, true, false, Option, Some, None, is_some, List, length, get_or, refl, ap, sym, subst, ◌∙◌, arith, All}
+use Rattle.std.proofs.Common.{◌≡◌, ◌≢◌, ◌<◌, inl, inr, ℕ, Bool, true, false, Option, Some, None, is_some, List, length, get_or, refl, ap, sym, subst, ◌∙◌, arith, All}
 use Rattle.std.specs.Prelude.{◌||◌, ◌&&◌}
 use Rattle.std.specs.List.{list_any, range_with_len}
 use Rattle.std.proofs.lemmas.List.FromFn.{get_or-range_with_len, length-range_with_len}
 use Rattle.std.proofs.lemmas.List.{get_or-replicate}
-use Rattle.std.proofs.lemmas.List.Folds.{list_any_none, list_any_at}
+use Rattle.std.proofs.lemmas.List.Folds.{list_any_none}
 use Rattle.std.proofs.lemmas.Bool.{cases_eq}
 use Rattle.lat_base.specs.Shape.{target_count, contest_of}
 use Rattle.readings.proofs.Places.{is_of}
-use Rattle.evade_space.specs.Sources.{source_at, with_source, empty_places, AreGiven}
+use Rattle.evade_space.specs.Sources.{source_at, empty_places, AreGiven}
 use Rattle.evade_space.specs.PartialMisassignment.{PartialMisassignment}
-use Rattle.evade_space.specs.Sought.{Sought, start}
+use Rattle.evade_space.specs.Sought.{Sought}
 use Rattle.evade_space.specs.Dead.{has_too_few, has_too_many, is_missed, is_overspent, is_dead}
 use Rattle.evade_space.specs.Tried.{IsTried, NoneMissed, NoneMissedOpen}
 use Rattle.evade_space.specs.Steps.{IsEvadeState}

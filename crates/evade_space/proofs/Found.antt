@@ -29,9 +29,9 @@ some_target contests shape = omega (arith, (shape.counts 0 no_contest shape.some
 lives : (sought : Sought) (s : PartialMisassignment) → IsEvadeState sought s → IsWhole s.sources → is_dead sought s.sources ≡ false
 lives sought s own h = elim own.alive [
   | inl e ↦ absurd (
-    let some = some_target sought.contests own.is_sought.shape in
-    let free : is_free s.sources 0 ≡ true = ap (λ (p : PartialMisassignment). is_free p.sources 0) e ∙ ap is_none (get_or-replicate (target_count sought.contests) 0 None (Some 0) some) in
-    cc (free, h 0 (omega (arith, some, own.long))))
+      let some = some_target sought.contests own.is_sought.shape in
+      let free : is_free s.sources 0 ≡ true = ap (λ (p : PartialMisassignment). is_free p.sources 0) e ∙ ap is_none (get_or-replicate (target_count sought.contests) 0 None (Some 0) some) in
+      cc (free, h 0 (omega (arith, some, own.long))))
   | inr e ↦ e
 ]
 
@@ -73,7 +73,7 @@ report_is sought s own h =
     let long = length-map-range_with_len votes 0 n in
     ext_get_or 0 (report sought.contests sought.deck (whole s.sources)) sought.wanted (long ∙ sym own.is_sought.wanted)
     (λ u lt. let inside : u < n = omega (arith, lt, long) in
-        get_or-map-range_with_len votes 0 n u u 0 inside (omega arith) ∙ total_is sought s u own h inside)
+    get_or-map-range_with_len votes 0 n u u 0 inside (omega arith) ∙ total_is sought s u own h inside)
 
 pub found : (sought : Sought) (s : PartialMisassignment) → IsEvadeState sought s → IsWhole s.sources → is_skipped sought s.sources ≡ false → IsSolution sought s (whole s.sources)
 found sought s own h other = record {

@@ -1,5 +1,5 @@
 -- The laws of the space.
-use Rattle.std.proofs.Common.{◌≡◌, ◌≢◌, ◌≤◌, ◌<◌, ◌↔◌, inr, ℕ, Bool, true, false, not, Option, Some, None, List, length, get_or, refl, ap, sym, subst, ◌∙◌, arith}
+use Rattle.std.proofs.Common.{◌≡◌, ◌<◌, ◌↔◌, inr, ℕ, Bool, true, false, not, Option, Some, None, List, length, get_or, refl, ap, sym, subst, ◌∙◌, arith}
 use Rattle.std.specs.Prelude.{if◌then◌else◌, ◌&&◌}
 use Rattle.std.specs.List.{range_with_len, filter}
 use Rattle.std.proofs.lemmas.List.{ext_get_or}
@@ -37,7 +37,7 @@ not_true true h = cc
 -- a kid is unused, a target, and what comes of it isn't dead
 pub kid_can : (sought : Sought) (sources : List (Option ℕ)) (u k : ℕ) → k < length (kids_of sought sources u)
     → (is_used sources (get_or (kids_of sought sources u) k 0) ≡ false) × (is_dead sought (with_source sources u (get_or (kids_of sought sources u) k 0)) ≡ false)
-      × (get_or (kids_of sought sources u) k 0 < length sources)
+    × (get_or (kids_of sought sources u) k 0 < length sources)
 kid_can sought sources u k lt =
     let passes = passes_at (can_get sought sources u) (length sources) k lt in
     let parts = and_true (not (is_used sources (get_or (kids_of sought sources u) k 0))) (not (is_dead sought (with_source sources u (get_or (kids_of sought sources u) k 0)))) passes in
@@ -62,11 +62,11 @@ pub skipped_has_none : (sought : Sought) (s : PartialMisassignment) (r : Skipped
 skipped_has_none sought s r v own closed is =
     is.other (ext_get_or 0 v sought.skip (is.is.long ∙ sym own.is_sought.skip.long)
     (λ u lt.
-      let inside : u < length s.sources = omega (arith, lt, is.is.long, own.long) in
-      let long = length-range_with_len 0 (length s.sources) in
-      let at : get_or (range_with_len 0 (length s.sources)) u 0 ≡ u = omega (arith, get_or-range_with_len 0 (length s.sources) u 0 inside) in
-      let all = AllPass-from_list_all (has_skipped sought s.sources) (range_with_len 0 (length s.sources)) closed u 0 (omega (arith, long, inside)) in
-      is.extends u (get_or sought.skip u 0) (that_is (get_or sought.skip u 0) (source_at s.sources u) (sym (ap (has_skipped sought s.sources) at) ∙ all))))
+    let inside : u < length s.sources = omega (arith, lt, is.is.long, own.long) in
+    let long = length-range_with_len 0 (length s.sources) in
+    let at : get_or (range_with_len 0 (length s.sources)) u 0 ≡ u = omega (arith, get_or-range_with_len 0 (length s.sources) u 0 inside) in
+    let all = AllPass-from_list_all (has_skipped sought s.sources) (range_with_len 0 (length s.sources)) closed u 0 (omega (arith, long, inside)) in
+    is.extends u (get_or sought.skip u 0) (that_is (get_or sought.skip u 0) (source_at s.sources u) (sym (ap (has_skipped sought s.sources) at) ∙ all))))
 
 true_and : (a b : Bool) → a ≡ false → b ≡ false → (not a && not b) ≡ true
 true_and false false h k = refl
@@ -98,7 +98,7 @@ kids_share sought s u n v own a = (down, up)
         let t_in : get_or v u 0 < length s.sources = omega (arith, source_within (target_count sought.contests) v is.is u (omega (arith, at.0, own.long)), own.long) in
         let fresh = unused (target_count sought.contests) s.sources v (record { long = own.long; is = is.is; extends = is.extends }) u at.0 at.1 in
         let lives = alive sought (with_source s.sources u (get_or v u 0)) v
-            (record { long = with_long s.sources u (get_or v u 0) ∙ own.long; is = is.is; extends = extends_more s.sources u v free is.extends }) is.report in
+        (record { long = with_long s.sources u (get_or v u 0) ∙ own.long; is = is.is; extends = extends_more s.sources u v free is.extends }) is.report in
         let place = kid_at (can_get sought s.sources u) (length s.sources) (get_or v u 0) t_in (true_and _ _ fresh lives) in
         (length (filter (can_get sought s.sources u) (range_with_len 0 (get_or v u 0))), omega (arith, place.0, count), moves _ is place.1)
 

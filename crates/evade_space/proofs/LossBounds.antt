@@ -1,7 +1,7 @@
 -- The marks that are surely lost, and the wanted votes, are no more than the marks.
-use Rattle.std.proofs.Common.{◌≡◌, ◌≤◌, ◌<◌, ◌+◌, ℕ, Bool, true, false, not, Option, List, length, take, get_or, cond, count_by, sum_by, map, refl, ap, sym, subst, ◌∙◌, arith}
-use Rattle.std.specs.Prelude.{nat_lt, ◌&&◌, if◌then◌else◌}
-use Rattle.std.specs.List.{range_with_len, list_any, All}
+use Rattle.std.proofs.Common.{◌≡◌, ◌≤◌, ◌<◌, ◌+◌, ℕ, Bool, true, false, Option, List, length, take, get_or, cond, count_by, sum_by, refl, ap, sym, subst, ◌∙◌, arith}
+use Rattle.std.specs.Prelude.{nat_lt, if◌then◌else◌}
+use Rattle.std.specs.List.{range_with_len, All}
 use Rattle.std.proofs.lemmas.List.{take_all}
 use Rattle.std.proofs.lemmas.List.FromFn.{get_or-range_with_len, length-range_with_len}
 use Rattle.std.proofs.lemmas.List.Folds.{list_any_none}
@@ -16,7 +16,7 @@ use Rattle.readings.proofs.DoubleSums.{sum_both, sums_exchanged, sums_turned}
 use Rattle.readings.proofs.Over.{count_over}
 use Rattle.readings.proofs.Grouped.{grouped, range_marks}
 use Rattle.readings.proofs.Readings.{reading_long}
-use Rattle.evade_space.specs.Seen.{seen, taken}
+use Rattle.evade_space.specs.Seen.{taken}
 use Rattle.evade_space.specs.Losses.{lost_on, lost}
 use Rattle.evade_space.specs.Sought.{Sought}
 use Rattle.evade_space.specs.Dead.{is_missed, wanted_total, is_overspent, is_dead}
@@ -44,8 +44,8 @@ lost_and_votes contests sources s ballot fit =
     let n : ℕ = target_count contests in
     let long : length r ≡ n = reading_long ballot s ∙ fit.is.long in
     let more : lost_marks contests sources ballot ≤ sum_by (λ c. if is_overvoted contests (reading ballot s) c then mark_count contests (reading ballot s) c else 0) (range_with_len 0 (length contests)) =
-        sum_by-le-sum_by (λ (c : ℕ). lost_on contests sources c ballot) (λ (c : ℕ). if is_overvoted contests (reading ballot s) c then mark_count contests (reading ballot s) c else 0)
-          (range_with_len 0 (length contests)) (λ c. over_le (contest_at contests c).limit (taken contests sources ballot c) (mark_count contests (reading ballot s) c) (taken_le contests sources s ballot c fit)) in
+    sum_by-le-sum_by (λ (c : ℕ). lost_on contests sources c ballot) (λ (c : ℕ). if is_overvoted contests (reading ballot s) c then mark_count contests (reading ballot s) c else 0)
+    (range_with_len 0 (length contests)) (λ c. over_le (contest_at contests c).limit (taken contests sources ballot c) (mark_count contests (reading ballot s) c) (taken_le contests sources s ballot c fit)) in
     let by_targets = grouped contests (reading ballot s) (is_overvoted contests (reading ballot s)) long in
     let parts = split_count (λ u. is_marked (reading ballot s) u) (λ u. is_overvoted contests (reading ballot s) (contest_of contests u)) (range_with_len 0 (target_count contests)) in
     let read = range_marks (reading ballot s) (target_count contests) in
@@ -63,11 +63,11 @@ not_overspent sought sources s fit e =
     let contests = sought.contests in
     let deck = sought.deck in
     let is_sum : wanted_total sought.wanted ≡ sum_by (total contests deck s) (range_with_len 0 (target_count contests)) =
-        ap wanted_total (sym e) ∙ sum-map (total contests deck s) (range_with_len 0 (target_count contests)) in
+    ap wanted_total (sym e) ∙ sum-map (total contests deck s) (range_with_len 0 (target_count contests)) in
     let by_ballots = sums_exchanged (λ b u. votes_for contests (reading b s) u) (range_with_len 0 (target_count contests)) deck in
     let lost_by = sums_turned (λ b c. lost_on contests sources c b) (range_with_len 0 (length contests)) deck in
     let le = sum_both (lost_marks contests sources) (λ b. count_by (votes_for contests (reading b s)) (range_with_len 0 (target_count contests))) (λ b. count_by (λ m. m) b) deck
-        (λ b. lost_and_votes contests sources s b fit) in
+    (λ b. lost_and_votes contests sources s b fit) in
     not_below (mark_total deck) (lost contests deck sources + wanted_total sought.wanted) (omega (arith, is_sum, by_ballots, lost_by, le))
 
 -- a misassignment that gives the wanted report passes each test

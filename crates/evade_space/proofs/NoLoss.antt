@@ -1,5 +1,5 @@
 -- Contests of which no more images have a source than the limit lose no mark.
-use Rattle.std.proofs.Common.{◌≡◌, ◌≤◌, ◌<◌, ◌+◌, ◌⊎◌, inl, inr, ℕ, Bool, true, false, Option, Some, None, is_some, List, [], ◌∷◌, length, get_or, count_by, sum_by, refl, ap, ◌∙◌, arith}
+use Rattle.std.proofs.Common.{◌≡◌, ◌≤◌, ◌+◌, inl, ℕ, Bool, true, false, Option, Some, None, is_some, List, [], ◌∷◌, refl, ap, arith}
 use Rattle.std.specs.Prelude.{slice_range, nat_lt, if◌then◌else◌}
 use Rattle.std.proofs.lemmas.List.Sums.{sum_by-cons}
 use Rattle.std.proofs.lemmas.Bool.Decides.{nat_tests}
@@ -22,7 +22,7 @@ taken_given contests sources ballot c =
     let m = first_target contests c in
     let n = first_target contests (c + 1) in
     let le = range_both (λ (x : Bool). x) (is_some {T = ℕ}) (λ (x : Bool). false) false None false refl refl refl m n (seen sources ballot) sources (seen sources ballot)
-        (λ i h. inl (some_seen ballot (source_at sources i) (map_true (is_seen ballot) sources i None h).1)) in
+    (λ i h. inl (some_seen ballot (source_at sources i) (map_true (is_seen ballot) sources i None h).1)) in
     omega (arith, le, none_pass (slice_range (seen sources ballot) m n))
 
 no_loss : (contests : List Contest) (sources : List (Option ℕ)) (c : ℕ) (ballot : List Bool) → given_places contests sources c ≤ (contest_at contests c).limit → lost_on contests sources c ballot ≡ 0

@@ -1,9 +1,9 @@
 -- The partial misassignment in which no image has a source.
-use Rattle.std.proofs.Common.{◌≡◌, ◌≤◌, ℕ, zero, suc, Bool, Option, Some, None, is_some, List, [], ◌∷◌, length, get_or, replicate, cond, count_by, refl, ap, sym, ◌∙◌, arith}
+use Rattle.std.proofs.Common.{◌≡◌, ◌≤◌, ℕ, zero, suc, Option, Some, None, is_some, [], replicate, cond, count_by, refl, sym, arith}
 use Rattle.std.proofs.lemmas.List.{length-replicate}
 use Rattle.std.proofs.lemmas.List.Sums.{sum_by-cons}
-use Rattle.evade_space.specs.Sources.{source_at, AreGiven}
-use Rattle.evade_space.specs.PartialMisassignment.{PartialMisassignment, IsPartialMisassignment}
+use Rattle.evade_space.specs.Sources.{source_at}
+use Rattle.evade_space.specs.PartialMisassignment.{IsPartialMisassignment}
 
 pub nothing_at : (n u t : ℕ) → source_at (replicate n None) u ≡ Some t → ⊥
 nothing_at zero u t e = cc

@@ -1,5 +1,5 @@
 -- A source is given and taken back.
-use Rattle.std.proofs.Common.{◌≡◌, ◌≤◌, ◌<◌, ◌+◌, ◌-◌, ◌++◌, ℕ, zero, suc, Bool, Option, Some, None, is_some, List, [], ◌∷◌, length, take, get_or, set, cond, count_by, refl, ap, sym, subst, ◌∙◌, arith, length-append}
+use Rattle.std.proofs.Common.{◌≡◌, ◌≤◌, ◌<◌, ◌+◌, ◌-◌, ◌++◌, ℕ, zero, suc, Option, Some, None, is_some, List, [], ◌∷◌, length, take, get_or, set, cond, refl, ap, sym, ◌∙◌, arith, length-append}
 use Rattle.std.proofs.lemmas.List.{get_or-take, take_more_set, length-take-le, take-take, set-get_or, length-set}
 use Rattle.std.proofs.lemmas.List.Sums.{sum_by-set, count_by-le-length}
 use Rattle.std.proofs.Math.Seq.{take-append_seam, get_or-append_seam}
@@ -18,8 +18,14 @@ set_same xs i a e = ap (set xs i) (sym e) ∙ set-get_or xs i None
 pub has_room : (p : PartialMisassignment) (u : ℕ) → IsPartialMisassignment p → u < length p.sources → source_at p.sources u ≡ None → length p.order < length p.sources
 has_room p u is lt free =
     let before : ◌≡◌ {A = ℕ} (cond (is_some (source_at p.sources u)) 1 0) 0 = ap (λ (o : Option ℕ). cond (is_some o) 1 0) free in
-    omega (arith, is.steps, before, sum_by-set (λ (o : Option ℕ). cond (is_some o) 1 0) p.sources u (Some 0) None lt,
-        count_by-le-length is_some (set p.sources u (Some 0)), length-set p.sources u (Some 0))
+    omega (
+      arith,
+      is.steps,
+      before,
+      sum_by-set (λ (o : Option ℕ). cond (is_some o) 1 0) p.sources u (Some 0) None lt,
+      count_by-le-length is_some (set p.sources u (Some 0)),
+      length-set p.sources u (Some 0),
+    )
 
 -- what the fields show
 abbrev pub state_of : List (Option ℕ) → List ℕ → ℕ → PartialMisassignment
@@ -50,7 +56,7 @@ takes_back s u t sources order n le free e =
     let count : n ≡ length s.order + 1 = omega (arith, length-take-le n order le, ap length order_is, length-append s.order (u ∷ [])) in
     let one_less : n - 1 ≡ length s.order = omega (arith, count) in
     let front : take (n - 1) order ≡ s.order =
-        sym (take-take (n - 1) n order (omega arith)) ∙ (ap (take (n - 1)) order_is ∙ (ap (λ (k : ℕ). take k (s.order ++ u ∷ [])) one_less ∙ take-append_seam s.order (u ∷ []))) in
+    sym (take-take (n - 1) n order (omega arith)) ∙ (ap (take (n - 1)) order_is ∙ (ap (λ (k : ℕ). take k (s.order ++ u ∷ [])) one_less ∙ take-append_seam s.order (u ∷ []))) in
     record {
       some = count;
       last = sym (get_or-take n order (n - 1) 0 (omega (arith, count))) ∙ (ap (λ (xs : List ℕ). get_or xs (n - 1) 0) order_is

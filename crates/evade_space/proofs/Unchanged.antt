@@ -1,13 +1,13 @@
 -- One more source changes nothing for the images of another contest that has no empty place.
-use Rattle.std.proofs.Common.{◌≡◌, ◌≢◌, ◌≤◌, ◌<◌, ◌+◌, ◌-◌, ◌⊎◌, inl, inr, ℕ, min, Bool, true, false, not, Option, Some, None, is_none, is_some, List, length, take, drop, get_or, set, count_by, map, refl, ap, sym, subst, ◌∙◌, arith}
+use Rattle.std.proofs.Common.{◌≡◌, ◌≢◌, ◌≤◌, ◌<◌, ◌+◌, ◌-◌, ◌⊎◌, inl, inr, ℕ, min, Bool, false, not, Option, Some, is_none, is_some, List, take, drop, get_or, set, count_by, ap, sym, ◌∙◌, arith}
 use Rattle.std.specs.Prelude.{slice_range, ◌&&◌, ◌||◌, nat_lt, nat_le}
 use Rattle.std.proofs.lemmas.List.{map-set, drop-set-lt, drop-set-add, take-set-le, get_or-set_other}
 use Rattle.std.proofs.lemmas.Bool.{cases_lt}
 use Rattle.lat_base.specs.declared.contest.Contest.{Contest}
 use Rattle.lat_base.specs.Shape.{target_count, first_target, contest_of, contest_at}
 use Rattle.lat_base.specs.Tally.{is_marked}
-use Rattle.readings.proofs.Places.{IsOf, is_of, of_one}
-use Rattle.evade_space.specs.Sources.{source_at, with_source, empty_places}
+use Rattle.readings.proofs.Places.{is_of, of_one}
+use Rattle.evade_space.specs.Sources.{with_source, empty_places}
 use Rattle.evade_space.specs.Seen.{is_seen, seen, taken, free_marks, most_marks}
 use Rattle.evade_space.specs.Votes.{may_vote_on, may_vote, must_vote_on, must_vote}
 use Rattle.evade_space.specs.Sought.{Sought}
@@ -20,9 +20,9 @@ range_other {X} xs m n i y (inl lt) = ap (λ (ys : List X). take (n - m) ys) (dr
 range_other {X} xs m n i y (inr ge) = elim (cases_lt i m) [
   | inl lt ↦ ap (λ (ys : List X). take (n - m) ys) (drop-set-lt m xs i y lt)
   | inr le ↦
-    let at : m + (i - m) ≡ i = omega arith in
-    ap (λ (k : ℕ). take (n - m) (drop m (set xs k y))) (sym at)
-    ∙ (ap (take (n - m)) (drop-set-add m xs (i - m) y) ∙ take-set-le (n - m) (drop m xs) (i - m) y (omega arith))
+      let at : m + (i - m) ≡ i = omega arith in
+      ap (λ (k : ℕ). take (n - m) (drop m (set xs k y))) (sym at)
+      ∙ (ap (take (n - m)) (drop-set-add m xs (i - m) y) ∙ take-set-le (n - m) (drop m xs) (i - m) y (omega arith))
 ]
 
 seen_with : (sources : List (Option ℕ)) (u t : ℕ) (ballot : List Bool) → seen (with_source sources u t) ballot ≡ set (seen sources ballot) u (is_marked ballot t)
@@ -92,8 +92,8 @@ must_other contests sources u t w ballot apart =
 pub missed_other : (sought : Sought) (sources : List (Option ℕ)) (u t w : ℕ) → Apart sought.contests sources u t w → is_missed sought (with_source sources u t) w ≡ is_missed sought sources w
 missed_other sought sources u t w apart =
     let may : may_vote sought.contests sought.deck (with_source sources u t) w ≡ may_vote sought.contests sought.deck sources w =
-        λ i. count_by (λ ballot. may_other sought.contests sources u t w ballot apart i) sought.deck in
+    λ i. count_by (λ ballot. may_other sought.contests sources u t w ballot apart i) sought.deck in
     let must : must_vote sought.contests sought.deck (with_source sources u t) w ≡ must_vote sought.contests sought.deck sources w =
-        λ i. count_by (λ ballot. must_other sought.contests sources u t w ballot apart i) sought.deck in
+    λ i. count_by (λ ballot. must_other sought.contests sources u t w ballot apart i) sought.deck in
     let at = at_other sources u t w (apart_images sought.contests sources u t w apart) in
     λ i. is_some (at i) && (nat_lt (may i) (get_or sought.wanted w 0) || nat_lt (get_or sought.wanted w 0) (must i))

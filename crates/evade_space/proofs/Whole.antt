@@ -1,6 +1,6 @@
 -- Sources of which each image has one.
-use Rattle.std.proofs.Common.{◌≡◌, ◌≢◌, ◌≤◌, ◌<◌, ◌+◌, ◌++◌, ℕ, zero, suc, Bool, true, false, not, Option, Some, None, is_none, List, [], ◌∷◌, length, take, get_or, cond, count_by, map, refl, ap, sym, subst, ◌∙◌, arith}
-use Rattle.std.specs.Prelude.{◌==◌, ◌&&◌, nat_lt, nat_le}
+use Rattle.std.proofs.Common.{◌≡◌, ◌≢◌, ◌≤◌, ◌<◌, ◌+◌, ◌++◌, ℕ, zero, suc, Bool, true, false, not, Option, Some, None, is_none, List, [], ◌∷◌, length, take, get_or, cond, count_by, refl, ap, sym, subst, ◌∙◌, arith}
+use Rattle.std.specs.Prelude.{◌==◌, nat_lt, nat_le}
 use Rattle.std.proofs.lemmas.List.{length-map, take_more, take_all}
 use Rattle.std.proofs.lemmas.List.Sums.{sum_by-cons}
 use Rattle.std.proofs.lemmas.Bool.Decides.{nat_tests}
@@ -8,10 +8,10 @@ use Rattle.lat_base.specs.declared.contest.Contest.{Contest}
 use Rattle.lat_base.specs.Shape.{first_target, contest_of, contest_at}
 use Rattle.lat_base.specs.Tally.{is_marked, reading, is_overvoted, votes_for, total}
 use Rattle.lat_base.specs.Misassignment.{IsMisassignment}
-use Rattle.lat_misassign.proofs.Valid.{Sound, sound_is}
+use Rattle.lat_misassign.proofs.Valid.{sound_is}
 use Rattle.readings.proofs.Counting.{count_le, range_le_all}
 use Rattle.evade_space.specs.Sources.{source_at, or_zero, whole, IsWhole, AreGiven}
-use Rattle.evade_space.specs.Seen.{is_seen, seen, taken, most_marks}
+use Rattle.evade_space.specs.Seen.{seen, taken, most_marks}
 use Rattle.evade_space.specs.Votes.{may_vote_on, may_vote, must_vote_on, must_vote}
 use Rattle.evade_space.proofs.VoteBounds.{and_true, true_and, not_over}
 
@@ -51,12 +51,12 @@ must_is contests deck sources u h =
     let limit = (contest_at contests c).limit in
     count_le (λ ballot. votes_for contests (reading ballot (whole sources)) u) (must_vote_on contests sources u) deck
     (λ ballot k.
-      let votes : votes_for contests (seen sources ballot) u ≡ true = ap (λ (r : List Bool). votes_for contests r u) (seen_is ballot sources h) ∙ k in
-      let parts = and_true (is_marked (seen sources ballot) u) (not (is_overvoted contests (seen sources ballot) c)) votes in
-      let le = not_over limit (taken contests sources ballot c) parts.1 in
-      let empty = range_le_all (is_none {T = ℕ}) sources (first_target contests c) (first_target contests (c + 1)) in
-      let most : most_marks contests sources ballot c ≤ limit = omega (arith, le, empty, none_free sources h) in
-      true_and (is_marked (seen sources ballot) u) (nat_le (most_marks contests sources ballot c) limit) parts.0 (within_is limit (most_marks contests sources ballot c) most))
+    let votes : votes_for contests (seen sources ballot) u ≡ true = ap (λ (r : List Bool). votes_for contests r u) (seen_is ballot sources h) ∙ k in
+    let parts = and_true (is_marked (seen sources ballot) u) (not (is_overvoted contests (seen sources ballot) c)) votes in
+    let le = not_over limit (taken contests sources ballot c) parts.1 in
+    let empty = range_le_all (is_none {T = ℕ}) sources (first_target contests c) (first_target contests (c + 1)) in
+    let most : most_marks contests sources ballot c ≤ limit = omega (arith, le, empty, none_free sources h) in
+    true_and (is_marked (seen sources ballot) u) (nat_le (most_marks contests sources ballot c) limit) parts.0 (within_is limit (most_marks contests sources ballot c) most))
 
 -- a number that stands in no two places stands once at most
 none_equal : (t : ℕ) (xs : List ℕ) → ((i : ℕ) → i < length xs → get_or xs i 0 ≢ t) → count_by (λ x. x == t) xs ≡ 0
@@ -91,13 +91,13 @@ pub whole_is : (n : ℕ) (sources : List (Option ℕ)) → AreGiven n sources �
 whole_is n sources are h =
     let long : length (whole sources) ≡ n = length-map sources or_zero ∙ are.long in
     let below : (i : ℕ) → i < length (whole sources) → get_or (whole sources) i 0 < length (whole sources) =
-        λ i lt. let m = are.within i (get_or (whole sources) i 0) (source_is sources i h (omega (arith, lt, long, are.long))) in omega (arith, long) in
+    λ i lt. let m = are.within i (get_or (whole sources) i 0) (source_is sources i h (omega (arith, lt, long, are.long))) in omega (arith, long) in
     let apart : (i j : ℕ) → i < j → j < length (whole sources) → get_or (whole sources) i 0 ≢ get_or (whole sources) j 0 =
-        λ i j lt in_j e.
-          let a = source_is sources i h (omega (arith, lt, in_j, long, are.long)) in
-          let b = source_is sources j h (omega (arith, in_j, long, are.long)) in
-          let same = are.once i j (get_or (whole sources) i 0) a (b ∙ ap (λ (t : ℕ). Some t) (sym e)) in
-          omega (arith, same, lt) in
+    λ i j lt in_j e.
+    let a = source_is sources i h (omega (arith, lt, in_j, long, are.long)) in
+    let b = source_is sources j h (omega (arith, in_j, long, are.long)) in
+    let same = are.once i j (get_or (whole sources) i 0) a (b ∙ ap (λ (t : ℕ). Some t) (sym e)) in
+    omega (arith, same, lt) in
     subst (λ (m : ℕ). IsMisassignment m (whole sources)) long
     (sound_is (whole sources) (record { once = λ t. at_most_once t (whole sources) apart; below = all_below (whole sources) (length (whole sources)) below }))
 

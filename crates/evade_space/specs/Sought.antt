@@ -1,5 +1,5 @@
 -- What is sought: misassignments that give a deck a wanted report.
-use Rattle.std.specs.Prelude.{◌≡◌, ◌≢◌, ℕ, ◌≤◌, Bool, None, Option, List, [], length, replicate}
+use Rattle.std.specs.Prelude.{◌≡◌, ◌≢◌, ℕ, ◌≤◌, Bool, None, List, [], length, replicate}
 use Rattle.lat_base.specs.declared.contest.Contest.{Contest}
 use Rattle.lat_base.specs.Shape.{target_count, IsShape}
 use Rattle.lat_base.specs.Deck.{Fits}

@@ -86,7 +86,11 @@ impl Evade {
 
     /// The misassignment of a state in which each image has a source.
     #[tactic(auto, using(crate::proofs::Whole::whole_more, crate::proofs::Whole::whole_all, crate::proofs::Whole::whole_some, crate::proofs::Found::whole_sources))]
-    pub fn misassignment(&self, alloc: Global, state: &EvadeState) -> Result<Misassignment, AllocError>
+    pub fn misassignment(
+        &self,
+        alloc: Global,
+        state: &EvadeState,
+    ) -> Result<Misassignment, AllocError>
         requires own { IsEvadeState self.now state.now }
         requires whole { IsWhole state.now.sources }
         ensures value { IfOk result (λ s. s ≡ whole state.now.sources) }

@@ -11,7 +11,7 @@ use Rattle.std.proofs.lemmas.List.FromFn.{get_or-map-range_with_len, length-map-
 use Rattle.std.proofs.lemmas.List.Sums.{count_by-le-length}
 use Rattle.readings.proofs.Ranges.{count_more, count_same}
 use Rattle.readings.proofs.Counting.{none_pass}
-use Rattle.lat_ballots.specs.Row.{bits_of, is_set, is_common, common_count}
+use Rattle.lat_ballots.specs.Row.{bits_of, is_common, common_count}
 use Rattle.lat_ballots.specs.Deck.{AreRows}
 use Rattle.lat_ballots.proofs.OneBit.{get_or-bits_of, length-bits_of}
 use Rattle.lat_ballots.proofs.Slices.{as_bit}
@@ -21,11 +21,11 @@ word_ones : (x : ℕ) → x < 2 ^ 64 → count_ones x ≡ count_by (λ k. nat_eq
 word_ones x lt =
     let bits : List Bool = map (λ k. nat_eq (bit_at x k) 1) (range_with_len 0 64) in
     let same : x ≡ mask_l (map (λ k. nat_eq (bit_at x k) 1) (range_with_len 0 64)) =
-        same_from_bits_below 64 x (mask_l bits) lt
-        (subst (λ (n : ℕ). mask_l bits < 2 ^ n) (length-map-range_with_len (λ k. nat_eq (bit_at x k) 1) 0 64) (mask_l-lt bits))
-        (λ i h. sym (bit_mask_l bits i
-            ∙ ap {B = ℕ} (λ (b : Bool). cond b 1 0) (get_or-map-range_with_len (λ k. nat_eq (bit_at x k) 1) 0 64 i i false h (omega arith))
-            ∙ as_bit (bit_at x i) (bit_at-lt x i))) in
+    same_from_bits_below 64 x (mask_l bits) lt
+    (subst (λ (n : ℕ). mask_l bits < 2 ^ n) (length-map-range_with_len (λ k. nat_eq (bit_at x k) 1) 0 64) (mask_l-lt bits))
+    (λ i h. sym (bit_mask_l bits i
+    ∙ ap {B = ℕ} (λ (b : Bool). cond b 1 0) (get_or-map-range_with_len (λ k. nat_eq (bit_at x k) 1) 0 64 i i false h (omega arith))
+    ∙ as_bit (bit_at x i) (bit_at-lt x i))) in
     ap count_ones same ∙ ones-mask_l (λ k. nat_eq (bit_at x k) 1) (range_with_len 0 64)
 
 -- a range is a first part and what follows it
@@ -72,13 +72,13 @@ word_more words others i lt fits =
     let next : 64 * (i + 1) ≡ 64 * i + 64 = omega arith in
     let both = is_common (bits_of words) (bits_of others) in
     let each = count_same (λ k. both (64 * i + k)) (λ k. nat_eq (bit_at (bit_and w v) k) 1) 64
-        (λ k below.
-          let at : (64 * i + k) / 64 ≡ i = omega arith in
-          let place : (64 * i + k) % 64 ≡ k = omega arith in
-          let bit : (xs : List ℕ) → get_or (bits_of xs) (64 * i + k) false ≡ nat_eq (bit_at (get_or xs i 0) k) 1 =
-              λ xs. get_or-bits_of xs (64 * i + k) (omega arith) ∙ (λ j. nat_eq (bit_at (get_or xs (at j) 0) (place j)) 1) in
-          (λ j. bit words j && bit others j)
-          ∙ sym (ap (λ (b : ℕ). nat_eq b 1) (bit_at_and w v k) ∙ both_bits (bit_at w k) (bit_at v k) (bit_at-lt w k) (bit_at-lt v k))) in
+    (λ k below.
+    let at : (64 * i + k) / 64 ≡ i = omega arith in
+    let place : (64 * i + k) % 64 ≡ k = omega arith in
+    let bit : (xs : List ℕ) → get_or (bits_of xs) (64 * i + k) false ≡ nat_eq (bit_at (get_or xs i 0) k) 1 =
+    λ xs. get_or-bits_of xs (64 * i + k) (omega arith) ∙ (λ j. nat_eq (bit_at (get_or xs (at j) 0) (place j)) 1) in
+    (λ j. bit words j && bit others j)
+    ∙ sym (ap (λ (b : ℕ). nat_eq b 1) (bit_at_and w v k) ∙ both_bits (bit_at w k) (bit_at v k) (bit_at-lt w k) (bit_at-lt v k))) in
     ap (λ (n : ℕ). count_by both (range_with_len 0 n)) next ∙ range_parts both (64 * i) 64
     ∙ ap (λ (n : ℕ). count_by both (range_with_len 0 (64 * i)) + n) (each ∙ sym (word_ones (bit_and w v) small))
 

@@ -1,14 +1,10 @@
 -- Totals where each target counts for itself.
-use Rattle.std.proofs.Common.{◌≡◌, ◌<◌, ◌+◌, ◌++◌, ℕ, zero, suc, Bool, false, List, [], ◌∷◌, length, get_or, map, cond, count_by, count_ones, refl, ap, sym, ◌∙◌, subst, arith}
-use Rattle.std.specs.List.{range_with_len}
-use Rattle.std.proofs.lemmas.List.{ext_get_or, map-append, map-id}
-use Rattle.std.proofs.lemmas.List.FromFn.{get_or-map-range_with_len, length-map-range_with_len}
-use Rattle.std.proofs.lemmas.List.Sums.{sum_by-cons}
-use Rattle.std.proofs.lemmas.List.Elements.{All-head, All-tail}
+use Rattle.std.proofs.Common.{◌≡◌, ℕ, Bool, List, get_or, count_by, count_ones, ap, sym, ◌∙◌, subst}
+use Rattle.std.proofs.lemmas.List.{map-id}
 use Rattle.lat_base.specs.declared.contest.Contest.{Contest}
 use Rattle.lat_base.specs.Shape.{target_count}
 use Rattle.lat_base.specs.Misassignment.{identity}
-use Rattle.lat_base.specs.Tally.{is_marked, reading, votes_for, own_total}
+use Rattle.lat_base.specs.Tally.{reading, votes_for, own_total}
 use Rattle.lat_base.specs.Deck.{Fits}
 use Rattle.lat_ballots.specs.Deck.{Ballots, IsDeck}
 use Rattle.std.specs.Simd.Lanes.{mask_l}

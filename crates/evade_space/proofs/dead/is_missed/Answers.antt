@@ -21,7 +21,7 @@ pub returns-then-most-wanted-2 : goal.returns-then-most-wanted-2
 returns-then-most-wanted-2 c =
     let view = c.space.view_is in
     let wanted = wanted_read c.space.inside.wanted.items c.args.space.now c.args.u c.index-wanted.result.now (ap (λ (x : Sought). x.wanted) view)
-        (c.space.invariant.0.wanted ∙ ap (λ (x : Sought). target_count x.contests) view) c.requires.image c.index-wanted.ensures in
+    (c.space.invariant.0.wanted ∙ ap (λ (x : Sought). target_count x.contests) view) c.requires.image c.index-wanted.ensures in
     let most = sym (c.may_vote-most.ensures ∙ ap (λ (x : Sought). may_vote x.contests x.deck c.args.sources.now c.args.u) view) in
     let sure = sym (c.must_vote.ensures ∙ ap (λ (x : Sought). must_vote x.contests x.deck c.args.sources.now c.args.u) view) in
     sym (many_missed c.args.space.now c.args.sources.now c.args.u c.in-Some.t c.in-Some.is (omega (arith, wanted, most, c.if-most-wanted.false)) ∙ (λ i. nat_lt (wanted i) (sure i)))
@@ -30,7 +30,7 @@ pub returns-else-most-wanted-2 : goal.returns-else-most-wanted-2
 returns-else-most-wanted-2 c =
     let view = c.space.view_is in
     let wanted = wanted_read c.space.inside.wanted.items c.args.space.now c.args.u c.index-wanted.result.now (ap (λ (x : Sought). x.wanted) view)
-        (c.space.invariant.0.wanted ∙ ap (λ (x : Sought). target_count x.contests) view) c.requires.image c.index-wanted.ensures in
+    (c.space.invariant.0.wanted ∙ ap (λ (x : Sought). target_count x.contests) view) c.requires.image c.index-wanted.ensures in
     let most = sym (c.may_vote-most.ensures ∙ ap (λ (x : Sought). may_vote x.contests x.deck c.args.sources.now c.args.u) view) in
     not_test c.index-wanted.result.now c.may_vote-most.result c.if-most-wanted-2.false
     ∙ sym (none_missed c.args.space.now c.args.sources.now c.args.u c.in-Some.t c.in-Some.is (omega (arith, wanted, most, c.if-most-wanted.false, c.if-most-wanted-2.false)))

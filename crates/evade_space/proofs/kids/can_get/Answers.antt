@@ -1,4 +1,4 @@
-use Rattle.std.proofs.Common.{◌≡◌, ◌∙◌, ◌<◌, ℕ, Option, List, sym, ap, subst, arith, length}
+use Rattle.std.proofs.Common.{◌∙◌, ℕ, Option, List, sym, ap, subst, arith}
 use Rattle.lat_base.specs.Shape.{target_count}
 use Rattle.evade_space.specs.Sources.{AreGiven, is_used, with_source}
 use Rattle.evade_space.proofs.Known.{given_more}

@@ -1,4 +1,4 @@
-use Rattle.std.proofs.Common.{◌≡◌, ◌∙◌, ◌<◌, sym, refl, ap, arith, ℕ, List, get_or}
+use Rattle.std.proofs.Common.{◌≡◌, ◌∙◌, ◌<◌, sym, refl, arith, ℕ}
 use borrow.Author.Count.{below_more}
 use Rattle.lat_base.specs.Shape.{target_count}
 use Rattle.lat_base.specs.Misassignment.{identity}

@@ -1,4 +1,4 @@
-use Rattle.std.proofs.Common.{◌≡◌, ◌∙◌, ◌<◌, ℕ, get_or, sym, ap, subst, arith, length}
+use Rattle.std.proofs.Common.{◌∙◌, ◌<◌, ℕ, sym, ap, subst, arith, length}
 use Rattle.evade_space.specs.Sources.{is_used}
 use Rattle.evade_space.proofs.Laws.{allowed, kid_can}
 use Rattle.evade_space.proofs.space.EvadeSpace.enter.Goals as goal

@@ -1,4 +1,4 @@
-use Rattle.std.proofs.Common.{◌≡◌, ◌<◌, ◌≤◌, ◌∙◌, ℕ, Some, sym, subst, ap, arith, length}
+use Rattle.std.proofs.Common.{◌≡◌, ◌∙◌, Some, sym, subst, ap, arith, length}
 use Rattle.std.proofs.lemmas.List.{length-set}
 use Rattle.evade_space.specs.PartialMisassignment.{PartialMisassignment, IsPartialMisassignment}
 use Rattle.evade_space.proofs.Moved.{moved_is_partial}
@@ -29,6 +29,8 @@ invariant_of-self c =
     let m : length c.self.inside.sources.items ≡ length c.args.self.now.sources = ap (λ (q : PartialMisassignment). length q.sources) c.self.view_is in
     let is = gives c.self.inside.sources.items c.self.inside.order.items c.self.inside.steps c.args.u c.args.t c.args.self.now c.self.view_is (omega (arith, room, n, m, c.self.invariant.1)) in
     let order_long = length-set c.self.inside.order.items c.self.inside.steps c.args.u in
-    let sources_long = length-set c.self.inside.sources.items c.args.u (Some c.args.t) in
-    (subst IsPartialMisassignment (sym is) (moved_is_partial c.args.self.now c.args.u c.args.t partial c.requires.image c.requires.free c.requires.target c.requires.unused),
-      order_long ∙ (c.self.invariant.1 ∙ sym sources_long), omega (arith, order_long, room, n, m, c.self.invariant.1))
+    let sources_long = length-set c.self.inside.sources.items c.args.u (Some c.args.t) in (
+      subst IsPartialMisassignment (sym is) (moved_is_partial c.args.self.now c.args.u c.args.t partial c.requires.image c.requires.free c.requires.target c.requires.unused),
+      order_long ∙ (c.self.invariant.1 ∙ sym sources_long),
+      omega (arith, order_long, room, n, m, c.self.invariant.1),
+    )

@@ -1,7 +1,7 @@
-use Rattle.std.proofs.Common.{◌≡◌, ◌<◌, ◌≤◌, ◌-◌, get_or, ◌∙◌, sym, subst, ap, arith, length, take, List, ℕ, Option, None, set}
+use Rattle.std.proofs.Common.{◌≡◌, ◌-◌, get_or, ◌∙◌, sym, subst, ap, arith, ℕ, None, set}
 use Rattle.std.proofs.lemmas.List.{length-set}
 use Rattle.std.proofs.lemmas.Grind.{common_steps}
-use Rattle.evade_space.specs.PartialMisassignment.{PartialMisassignment, IsPartialMisassignment, moved}
+use Rattle.evade_space.specs.PartialMisassignment.{IsPartialMisassignment}
 use Rattle.evade_space.proofs.Steps.{takes_back, state_of}
 use Rattle.evade_space.proofs.state.EvadeState.take_back.Goals as goal
 
