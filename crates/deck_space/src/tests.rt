@@ -59,6 +59,11 @@ fn both_kids_of_a_mark(rt: HostRuntime) -> Result<(), Fail> {
     let tree = fork(alloc, Label::Mark(0, 0), blank, totals)?;
     let verdict = check_tree(alloc, &Decks::new(), &mut state, &tree)?;
     assert_eq!(rt; verdict, Verdict0::Holds);
+    let totals = Tree::close(alloc, Reason::Totals(0))?;
+    let blank = Tree::close(alloc, Reason::Blank)?;
+    let exchanged = fork(alloc, Label::Mark(0, 0), totals, blank)?;
+    let verdict = check_tree(alloc, &Decks::new(), &mut state, &exchanged)?;
+    assert_eq!(rt; verdict, Verdict0::Fails(1));
     assert_eq!(rt; state.depth(), 0);
     Ok(())
 }
