@@ -48,8 +48,8 @@ fn no_ballot_is_too_few(rt: HostRuntime) -> Result<(), Fail> {
     Ok(())
 }
 
-// One ballot that is asked to be blank and to have a vote: marked it isn't blank, and unmarked it has
-// no vote.
+// One ballot that is asked to be blank and to have a vote, which no ballot can give then: marked it
+// isn't blank, and unmarked it is.
 #[test]
 fn both_kids_of_a_mark(rt: HostRuntime) -> Result<(), Fail> {
     let alloc = rt.alloc();
@@ -63,7 +63,7 @@ fn both_kids_of_a_mark(rt: HostRuntime) -> Result<(), Fail> {
     let blank = Tree::close(alloc, Reason::Blank)?;
     let exchanged = fork(alloc, Label::Mark(0, 0), totals, blank)?;
     let verdict = check_tree(alloc, &Decks::new(), &mut state, &exchanged)?;
-    assert_eq!(rt; verdict, Verdict0::Fails(1));
+    assert_eq!(rt; verdict, Verdict0::Fails(2));
     assert_eq!(rt; state.depth(), 0);
     Ok(())
 }
