@@ -34,7 +34,7 @@ fn deck_of<R: Abort + AllocGlobal>(
     let mut deck = Deck::blank(alloc, &shape, masks.len() as u16)?;
     for (j, mask) in masks.iter().enumerate() {
         for t in 0..deck.targets() {
-            if j < usize::from(deck.ballots()) {
+            if j < usize::from(deck.ballots()) && t < deck.targets() {
                 deck.set(j as u16, t, (mask >> t) & 1 == 1);
             }
         }

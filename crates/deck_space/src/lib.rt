@@ -1,0 +1,12 @@
+//! Partial decks as a space of states that is searched by trees.
+#![tactic(auto)]
+
+mod allowing;
+mod decks;
+mod law;
+
+pub use decks::Decks;
+pub use law::{checked_tree_leaves_no_good_deck, shown_solution_is_value};
+
+#[cfg(test)]
+mod tests;
