@@ -1,5 +1,5 @@
 -- Decks that nothing evades.
-use Rattle.std.proofs.Common.{◌≡◌, ◌≢◌, ◌⊎◌, inl, inr, ℕ, Bool, true, false, Some, None, Option, List, length, refl, ap, sym, subst, ◌∙◌}
+use Rattle.std.proofs.Common.{◌≡◌, ◌≢◌, ◌⊎◌, inl, inr, ℕ, Bool, true, false, Some, None, List, length, refl, ap, sym, subst, ◌∙◌}
 use Rattle.std.specs.Prelude.{if◌then◌else◌}
 use Rattle.std.specs.Str.{bytes_eq}
 use Rattle.std.proofs.lemmas.Slice.Eq.{bytes_eq-Decides}
@@ -42,9 +42,10 @@ pub closed : (contests : List Contest) (deck : List (List Bool)) (space : Sought
     → Checks (evade_steps space) state (tree_of tree) → ((v : List ℕ) → IsSolution space state v → ⊥)
     → IsRobust contests deck × Checks (evade_steps (own_sought contests deck)) (start (own_sought contests deck)) (tree_of tree)
 closed contests deck space state tree is begins checks none =
-    let at : state ≡ start (own_sought contests deck) = begins ∙ ap start is in
-    (is_robust contests deck (λ v solved. none v (subst (λ (x : Sought). IsSolution x state v) (sym is) (subst (λ (y : PartialMisassignment). IsSolution (own_sought contests deck) y v) (sym at) solved))),
-      subst (λ (y : PartialMisassignment). Checks (evade_steps (own_sought contests deck)) y (tree_of tree)) at (subst (λ (x : Sought). Checks (evade_steps x) state (tree_of tree)) is checks))
+    let at : state ≡ start (own_sought contests deck) = begins ∙ ap start is in (
+      is_robust contests deck (λ v solved. none v (subst (λ (x : Sought). IsSolution x state v) (sym is) (subst (λ (y : PartialMisassignment). IsSolution (own_sought contests deck) y v) (sym at) solved))),
+      subst (λ (y : PartialMisassignment). Checks (evade_steps (own_sought contests deck)) y (tree_of tree)) at (subst (λ (x : Sought). Checks (evade_steps x) state (tree_of tree)) is checks),
+    )
 
 -- what is found in the deck's own space evades it
 pub found : (contests : List Contest) (deck : List (List Bool)) (space : Sought) (state : PartialMisassignment) (s v : List ℕ) → space ≡ own_sought contests deck → state ≡ start space

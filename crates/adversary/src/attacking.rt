@@ -27,7 +27,12 @@ pub enum Attacked {
 /// Searches for a misassignment, not the identity, that leaves every total of a deck as it is: first
 /// among the exchanges of two targets and of two whole contests, and then by a tree of at most
 /// `budget` Close and Fork nodes. Which one is found is left open. The only error is want of memory.
-pub fn attack(alloc: Global, shape: &Shape, deck: &Deck, budget: u64) -> Result<Attacked, AllocError>
+pub fn attack(
+    alloc: Global,
+    shape: &Shape,
+    deck: &Deck,
+    budget: u64,
+) -> Result<Attacked, AllocError>
     requires deck { deck.now.targets ≡ target_count shape.now }
     requires budget { 1 ≤ budget }
     ensures { IfOk result (IsAttack shape.now deck.now.ballots budget) }

@@ -4,7 +4,6 @@ use Rattle.std.specs.List.{flat_map, range_with_len}
 use Rattle.std.specs.Fmt.{decimal}
 use Rattle.lat_base.specs.declared.contest.Contest.{Contest}
 use Rattle.lat_base.specs.declared.contest_names.ContestNames.{ContestNames}
-use Rattle.lat_base.specs.Shape.{target_count}
 use Rattle.lat_base.specs.Names.{StyleNames, names_at}
 use Rattle.lat_base.specs.Rules.{RuleSet}
 use Rattle.lat_rules.specs.declared.broken.Broken.{Broken}

@@ -1,4 +1,4 @@
-use Rattle.std.proofs.Common.{◌≡◌, Option, Some, None, Ok, Err, sym, ap, ◌∙◌}
+use Rattle.std.proofs.Common.{◌≡◌, Option, Some, None, sym, ap, ◌∙◌}
 use Rattle.lat_rules.specs.declared.broken.Broken.{Broken}
 use Rattle.lat_rules.specs.Broken.{broken_rule}
 use Rattle.deck_text.specs.VerifyText.{rules_text}
