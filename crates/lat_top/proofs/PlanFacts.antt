@@ -1,8 +1,5 @@
 -- What a call of `plan` leaves, from what its parts leave.
-use Rattle.std.proofs.Common.{◌≡◌, ◌≤◌, ◌++◌, ℕ, List, Option, ap, ◌∙◌, sym, subst, inl, inr, arith, take, Err, length, ◌<◌}
-use Rattle.std.specs.Prelude.{option_map}
-use Rattle.lat_shelf.specs.Shelf.{Files, SameBut, Rose}
-use Rattle.lat_shelf.specs.Sink.{AddsFront}
+use Rattle.std.proofs.Common.{ℕ, List, sym, subst, inl, inr, Err, length, ◌<◌}
 use Rattle.lat_top.specs.declared.status.Status.{Status}
 use Rattle.lat_top.specs.declared.status.Status.TheVariants as s
 use Rattle.lat_top.specs.declared.refusal.Refusal.{Refusal}
@@ -11,7 +8,7 @@ use Rattle.lat_base.specs.Names.{NamesFit}
 use Rattle.election_json.specs.Definition.{DefinitionValue, IsDefinition, no_style, style_at}
 use Rattle.lat_top.specs.Words.{Plan}
 use Rattle.lat_top.specs.Outside.{Outside, Untouched, HasRead}
-use Rattle.lat_top.specs.Writing.{files_after, name_at, Wrote, PutFailed, GaveFront, PutSome, WriteFails, WriteStops}
+use Rattle.lat_top.specs.Writing.{Wrote}
 use Rattle.lat_top.specs.AskedStyle.{planned_style, Finds}
 use Rattle.lat_top.specs.Written.{Texts, WritesAs}
 use Rattle.lat_top.specs.PlanAnswer.{IsAnswer}

@@ -1,6 +1,5 @@
 -- What a call of `verify` leaves, from what its parts leave.
-use Rattle.std.proofs.Common.{◌≡◌, ◌≤◌, ℕ, List, Option, Some, None, Result, Ok, Err, length, sym, ap, ◌∙◌, subst, inl, inr}
-use Rattle.lat_ballots.specs.Deck.{Ballots}
+use Rattle.std.proofs.Common.{◌≡◌, ℕ, List, Option, Some, None, Result, Ok, Err, length, sym, ◌∙◌, subst, inl, inr}
 use Rattle.adversary.specs.declared.attacking.Attacked.{Attacked}
 use Rattle.adversary.specs.declared.attacking.Attacked.TheVariants as attacked
 use Rattle.lat_top.specs.declared.asked_style.AskedStyle.{AskedStyle}
@@ -93,8 +92,8 @@ pub ends_by : (verify : Verify) (style : AskedStyle) (planned status : Status) (
 ends_by verify style planned status table texts before after has read answer h = elim h [
   | inl all ↦ subst (λ (x : Status). VerifyEnds verify x before after) (sym (all.0 ∙ answer.status_is))
       (by_attack verify (length answer.deck.ballots) answer.attack before after
-        (subst (λ (x : Status). Verified verify x before (λ texts. Wrote texts.puts texts.summary before after)) answer.status_is
-          (record { style = style; has_style = has; table = table; read = read; texts = texts; answer = answer; left = all.1 })))
+      (subst (λ (x : Status). Verified verify x before (λ texts. Wrote texts.puts texts.summary before after)) answer.status_is
+      (record { style = style; has_style = has; table = table; read = read; texts = texts; answer = answer; left = all.1 })))
   | inr part ↦ elim part [
     | inl failed ↦ subst (λ (x : Status). VerifyEnds verify x before after) (sym failed.0)
         (planned, record { style = style; has_style = has; table = table; read = read; texts = texts; answer = answer; left = failed.1 })

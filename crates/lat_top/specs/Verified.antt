@@ -1,5 +1,5 @@
 -- What `verify` answers: what an attack on the deck of a file comes to.
-use Rattle.std.specs.Prelude.{◌≡◌, ℕ, Bool, List, [], length, Result, Ok, Err, None, ⊤}
+use Rattle.std.specs.Prelude.{◌≡◌, ℕ, List, [], length, Result, Ok, Err, None, ⊤}
 use Rattle.lat_base.specs.Shape.{target_count}
 use Rattle.lat_ballots.specs.Deck.{Ballots}
 use Rattle.adversary.specs.declared.attacking.Attacked.{Attacked}

@@ -72,7 +72,12 @@ fn found(
     Ok(Output {
         status: Status::Done,
         puts: deck_files(alloc, asked.prefix, style, deck)?,
-        summary: least_summary(alloc, asked.style, style.shape.targets(), deck.ballots())?.into_bytes(),
+        summary: least_summary(
+            alloc,
+            asked.style,
+            style.shape.targets(),
+            deck.ballots(),
+        )?.into_bytes(),
     })
 }
 

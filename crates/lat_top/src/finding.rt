@@ -60,7 +60,11 @@ fn narrow_style(style: AskedStyle, max: u16) -> Result<AskedStyle, Refusal>
 }
 
 /// The style that the words of a plan ask for, or the first refusal; that it is too wide comes last.
-pub fn find_planned(alloc: Global, bytes: &[u8], asked: &PlanWords<'_>) -> Result<AskedStyle, Refusal>
+pub fn find_planned(
+    alloc: Global,
+    bytes: &[u8],
+    asked: &PlanWords<'_>,
+) -> Result<AskedStyle, Refusal>
     ensures style { Finds result (planned_style (kept asked.now) bytes.now) }
     ensures fits { IfOk result (λ style. NamesFit style.names.contests style.shape) }
 {

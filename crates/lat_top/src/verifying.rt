@@ -52,7 +52,14 @@ pub fn verify(
 {
     let deck = read_deck(alloc, style, table)?;
     let attack = attack(alloc, &style.shape, &deck, asked.budget)?;
-    let summary = verify_text(alloc, &style.shape, &style.names, &style.rules, &deck, &attack)?;
+    let summary = verify_text(
+        alloc,
+        &style.shape,
+        &style.names,
+        &style.rules,
+        &deck,
+        &attack,
+    )?;
     Ok(Output {
         status: attack_status(deck.ballots(), &attack),
         puts: Vec::new(alloc),

@@ -33,7 +33,11 @@ fn assert_verify<R: Abort + AllocGlobal>(
     shelf.add("deck.csv", table.as_bytes())?;
     let mut out = MemorySink::new(alloc);
     let words = verify_words(alloc)?;
-    assert_eq!(rt; run(alloc, &words, &mut shelf, &mut out), status, "{summary}");
+    assert_eq!(rt;
+        run(alloc, &words, &mut shelf, &mut out),
+        status,
+        "{summary}"
+    );
     assert_eq!(rt; out.bytes(), summary.as_bytes());
     assert!(rt; shelf.file("deck.csv.open").is_none());
     Ok(())

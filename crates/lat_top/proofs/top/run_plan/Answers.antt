@@ -1,4 +1,4 @@
-use Rattle.std.proofs.Common.{◌≡◌, sym, subst, refl, arith}
+use Rattle.std.proofs.Common.{sym, subst, refl, arith}
 use Rattle.lat_shelf.specs.Read.{IsFile}
 use Rattle.lat_top.specs.Asked.{kept}
 use Rattle.lat_top.specs.Outside.{Outside, HasRead}

@@ -1,4 +1,4 @@
-use Rattle.std.proofs.Common.{◌≡◌, ◌≤◌, ◌∙◌, sym, subst, refl, ap, arith, Option}
+use Rattle.std.proofs.Common.{◌∙◌, sym, subst, refl, arith, Option}
 use Rattle.lat_shelf.specs.Shelf.{Files}
 use Rattle.lat_shelf.specs.Read.{IsFile}
 use Rattle.lat_top.specs.declared.status.Status.{Status}
@@ -7,7 +7,6 @@ use Rattle.lat_top.specs.Outside.{Outside, Untouched, HasRead}
 use Rattle.lat_top.specs.Reading.{file_limit}
 use Rattle.lat_top.specs.Verified.{HasStyle}
 use Rattle.lat_top.specs.VerifyEnds.{VerifyEnds}
-use Rattle.lat_top.specs.Written.{texts_of}
 use Rattle.lat_top.proofs.VerifyFacts.{ends_bad_table}
 use Rattle.lat_top.proofs.verify_run.run_verify.Goals as goal
 
