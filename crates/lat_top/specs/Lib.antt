@@ -11,6 +11,6 @@ pub mod Written
 pub mod RefusalStatus
 pub mod PlanAnswer
 pub mod PlanEnds
-pub mod Complete
 pub mod Verified
 pub mod VerifyEnds
+pub mod Complete

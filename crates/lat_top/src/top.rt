@@ -5,7 +5,7 @@ ghost use Rattle.lat_top.specs.Asked.{kept};
 ghost use Rattle.lat_top.specs.Outside.{Outside, Untouched};
 ghost use Rattle.lat_top.specs.PlanEnds.{PlanEnds};
 ghost use Rattle.lat_top.specs.VerifyEnds.{VerifyEnds};
-ghost use Rattle.lat_top.specs.Complete.{CanPlan, IsPlanned};
+ghost use Rattle.lat_top.specs.Complete.{CanPlan, IsPlanned, CanVerify, IsAttacked};
 
 use crate::Status;
 use crate::answer::plan;
@@ -43,7 +43,7 @@ fn run_plan<H: Shelf, K: Sink>(
 
 /// Does what the words after the program's name ask for: reads from the shelf, puts files there,
 /// and gives the summary to `out`.
-#[tactic(auto, using(crate::proofs::Completeness::planned))]
+#[tactic(auto, using(crate::proofs::Completeness::planned, crate::proofs::Completeness::attacked))]
 pub fn run<H: Shelf, K: Sink>(alloc: Global, words: &[String], shelf: &mut H, out: &mut K) -> Status
     // The first fault in the words, exactly where they have one; then nothing is written.
     ensures words { (fault : WordFault) → (result ≡ Status.Words fault) ↔ (asked_of (texts words.now) ≡ Err fault) }
@@ -66,6 +66,12 @@ pub fn run<H: Shelf, K: Sink>(alloc: Global, words: &[String], shelf: &mut H, ou
         (record { files = H.files shelf.old; given = K.given out.old; shelf_faults = H.faults shelf.old; sink_faults = K.faults out.old })
         (record { files = H.files shelf.new; given = K.given out.new; shelf_faults = H.faults shelf.new; sink_faults = K.faults out.new })
         → IsPlanned result }
+
+    // A deck that can be attacked is attacked.
+    ensures complete_verify { (verify : Verify) → asked_of (texts words.now) ≡ Ok (Verifies verify) → CanVerify verify
+        (record { files = H.files shelf.old; given = K.given out.old; shelf_faults = H.faults shelf.old; sink_faults = K.faults out.old })
+        (record { files = H.files shelf.new; given = K.given out.new; shelf_faults = H.faults shelf.new; sink_faults = K.faults out.new })
+        → IsAttacked result }
 {
     match read_words(words) {
         Ok(Command::Plan(asked)) => run_plan(alloc, &asked, shelf, out),
