@@ -39,15 +39,12 @@ const BAD_ID: &str =
 const TURNED: &str =
     "{\"id\":\"a\",\"limit\":1,\"targets\":[\"x\"]},{\"id\":\"b\",\"limit\":1,\"targets\":[\"y\",\"z\"]}],\"styles\":[{\"id\":\"r\",\"contests\":[\"a\"]},{\"id\":\"s\",\"contests\":[\"b\",\"a\"]}]}";
 
-// The words `plan d.json STYLE out MAX 1000`.
-fn plan_words(alloc: Global, style: &str, max: &str) -> Result<Vec<String>, AllocError> {
+// The words of a command line.
+fn words_of(alloc: Global, line: &str) -> Result<Vec<String>, AllocError> {
     let mut words = Vec::new(alloc);
-    words.push(String::from_str(alloc, "plan")?)?;
-    words.push(String::from_str(alloc, "d.json")?)?;
-    words.push(String::from_str(alloc, style)?)?;
-    words.push(String::from_str(alloc, "out")?)?;
-    words.push(String::from_str(alloc, max)?)?;
-    words.push(String::from_str(alloc, "1000")?)?;
+    for word in line.split_whitespace() {
+        words.push(String::from_str(alloc, word)?)?;
+    }
     Ok(words)
 }
 
@@ -73,7 +70,8 @@ fn assert_plan<R: Abort + AllocGlobal>(
     let alloc = rt.alloc();
     let mut shelf = shelf_with(alloc, definition.0, definition.1)?;
     let mut out = MemorySink::new(alloc);
-    let words = plan_words(alloc, "s", max)?;
+    let line = format!(in alloc; "plan d.json s out {max} 1000")?;
+    let words = words_of(alloc, line.as_str())?;
     assert_eq!(rt;
         run(alloc, &words, &mut shelf, &mut out),
         status,
@@ -162,7 +160,7 @@ fn plans_small_styles(rt: HostRuntime) -> Result<(), Fail> {
 #[test]
 fn ends_where_the_outside_fails(rt: HostRuntime) -> Result<(), Fail> {
     let alloc = rt.alloc();
-    let words = plan_words(alloc, "s", "5")?;
+    let words = words_of(alloc, "plan d.json s out 5 1000")?;
     let mut shelf = MemoryShelf::new(alloc);
     let mut out = MemorySink::new(alloc);
     assert_eq!(rt; run(alloc, &words, &mut shelf, &mut out), Status::ReadFault);
@@ -171,7 +169,7 @@ fn ends_where_the_outside_fails(rt: HostRuntime) -> Result<(), Fail> {
         run(alloc, &words, &mut shelf, &mut out),
         Status::TooLong(8_388_609)
     );
-    let west = plan_words(alloc, "west", "5")?;
+    let west = words_of(alloc, "plan d.json west out 5 1000")?;
     let mut shelf = shelf_with(alloc, RULES_0, S)?;
     assert_eq!(rt; run(alloc, &west, &mut shelf, &mut out), Status::NoStyle);
     shelf.fail(Kind::Put, 1)?;

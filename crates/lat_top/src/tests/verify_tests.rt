@@ -8,16 +8,7 @@ const TWO: &str =
 const FOUR: &str =
     "ballot,contest,target\n1,a,a1\n1,a,a2\n1,b,b1\n1,b,b2\n2,a,a1\n2,b,b2\n3,a,a2\n3,b,b2\n4,a,a2\n4,b,b1\n";
 
-// The words `verify d.json two deck.csv 1000`.
-fn verify_words(alloc: Global) -> Result<Vec<String>, AllocError> {
-    let mut words = Vec::new(alloc);
-    words.push(String::from_str(alloc, "verify")?)?;
-    words.push(String::from_str(alloc, "d.json")?)?;
-    words.push(String::from_str(alloc, "two")?)?;
-    words.push(String::from_str(alloc, "deck.csv")?)?;
-    words.push(String::from_str(alloc, "1000")?)?;
-    Ok(words)
-}
+const VERIFY: &str = "verify d.json two deck.csv 1000";
 
 // What `verify d.json two deck.csv 1000` answers: the status and the summary. No file is put.
 fn assert_verify<R: Abort + AllocGlobal>(
@@ -32,7 +23,7 @@ fn assert_verify<R: Abort + AllocGlobal>(
     table.push_str(deck.1)?;
     shelf.add("deck.csv", table.as_bytes())?;
     let mut out = MemorySink::new(alloc);
-    let words = verify_words(alloc)?;
+    let words = words_of(alloc, VERIFY)?;
     assert_eq!(rt;
         run(alloc, &words, &mut shelf, &mut out),
         status,
@@ -73,7 +64,7 @@ fn verifies_decks(rt: HostRuntime) -> Result<(), Fail> {
         unknown.line(alloc)?.as_slice(),
         b"csv: unknown-target 2\n".as_slice()
     );
-    let words = verify_words(alloc)?;
+    let words = words_of(alloc, VERIFY)?;
     let mut out = MemorySink::new(alloc);
     let mut shelf = shelf_with(alloc, RULES_1, TWO)?;
     assert_eq!(rt; run(alloc, &words, &mut shelf, &mut out), Status::ReadFault);
