@@ -1,18 +1,11 @@
 -- Loops along the targets of a contest, by what is left to see.
-use Rattle.std.proofs.Common.{◌≡◌, ◌≢◌, ◌+◌, ◌<◌, ◌&&◌, ℕ, suc, Bool, true, false, not, List, length, map, refl, ap, sym, ◌∙◌, arith}
+use Rattle.std.proofs.Common.{◌≡◌, ◌≢◌, ◌+◌, ◌&&◌, ℕ, suc, Bool, true, false, not, map, refl, ap, sym, ◌∙◌}
 use Rattle.std.specs.Prelude.{◌==◌}
 use Rattle.std.specs.Cmp.Lexicographic.{slice_cmp}
 use Rattle.std.specs.List.{list_all, range_with_len}
 use Rattle.std.specs.Ordering.{nat_cmp, ordering_then, ordering_index}
 use Rattle.std.specs.declared.cmp.Ordering.{Ordering}
 use Rattle.std.specs.declared.cmp.Ordering.TheVariants.{Less, Equal, Greater}
-use Rattle.lat_base.specs.declared.contest.Contest.{Contest}
-use Rattle.lat_base.specs.Shape.{target_count, first_target, contest_at}
-use Rattle.readings.proofs.Places.{first_next, first_le}
-
--- the targets of a contest are targets
-pub inside : (contests : List Contest) (c i : ℕ) → c < length contests → i < (contest_at contests c).targets → first_target contests c + i < target_count contests
-inside contests c i h k = omega (arith, first_next contests c h, first_le contests (c + 1), k)
 
 -- one target passes a test
 pub passes_here : (f : ℕ → Bool) (t u n m : ℕ) → n ≡ suc m → u ≡ t + 1 → f t ≡ true → list_all f (range_with_len u m) ≡ list_all f (range_with_len t n)

@@ -1,7 +1,7 @@
 -- The votes of a contest in a solution are at most its capacity.
 use Rattle.std.proofs.Common.{◌≡◌, ◌+◌, ◌<◌, ◌≤◌, ℕ, suc, Bool, true, false, not, nat_lt, min, List, [], ◌∷◌, length, get_or, map, cond, count_by, refl, ap, sym, subst, ◌∙◌, arith, inl, inr}
 use Rattle.std.specs.List.{range_with_len, sum, sum_by}
-use Rattle.std.proofs.lemmas.Bool.{cases_lt}
+use Rattle.std.proofs.lemmas.Bool.{cases_lt, and_parts, not-true, ltb-true, lt-ltb, ltb-false, le-ltb}
 use Rattle.std.proofs.lemmas.List.Sums.{sum-map, sum_by-le-sum_by}
 use Rattle.lat_base.specs.declared.contest.Contest.{Contest}
 use Rattle.lat_base.specs.Shape.{target_count, first_target, contest_at, contest_of}
@@ -26,7 +26,6 @@ use Rattle.close_rules.proofs.FewColumns.{one_passes}
 use Rattle.close_rules.proofs.Largest.{AreUpTo, largest_by_levels}
 use Rattle.close_rules.proofs.LeastTotals.{are_rising, least_sum}
 use Rattle.close_rules.proofs.Levels.{count_above, levels, sums_agree, sum_by_levels}
-use Rattle.close_rules.proofs.Passed.{both, not_true, less, is_less, not_less, is_not_less}
 use Rattle.close_rules.proofs.Voting.{is_voting, few_voting, vote_is_voting}
 
 -- how many targets of contest c a ballot votes for
@@ -44,7 +43,7 @@ votes_marks : (contests : List Contest) (ballot : List Bool) (c : ℕ) → c < l
 votes_marks contests ballot c h long =
     let marks : mark_count contests ballot c ≡ count_by (λ t. is_marked ballot t) (targets_of contests c) = ap (count_by (λ (m : Bool). m)) (marks_are contests ballot c h long) ∙ count_map (λ (t : ℕ). is_marked ballot t) (λ (m : Bool). m) (targets_of contests c) in
     let few = counts_le (λ (t : ℕ). votes_for contests ballot t) (λ (t : ℕ). is_marked ballot t) (targets_of contests c) (targets_of contests c) 0 0 refl
-    (λ i lt votes. (both (is_marked ballot (get_or (targets_of contests c) i 0)) (not (is_overvoted contests ballot (contest_of contests (get_or (targets_of contests c) i 0)))) votes).0) in
+    (λ i lt votes. (and_parts (is_marked ballot (get_or (targets_of contests c) i 0)) (not (is_overvoted contests ballot (contest_of contests (get_or (targets_of contests c) i 0)))) votes).0) in
     omega (arith, marks, few)
 
 -- a ballot with a vote in a contest votes in it
@@ -61,9 +60,9 @@ votes_possible contests row ballot c h are = elim (cases_lt 0 (votes_in contests
   | inr none ↦ omega (arith, none)
   | inl some ↦
       let limit = (contest_at contests c).limit in
-      let voting = both (not (is_blank ballot)) (not (is_overvoted contests ballot c)) (some_vote contests ballot c h are.long some) in
-      let fine : mark_count contests ballot c ≤ limit = not_less limit (mark_count contests ballot c) (not_true (is_overvoted contests ballot c) voting.1) in
-      let test : nat_lt limit (marked_in contests row c) ≡ false = is_not_less limit (marked_in contests row c) (omega (arith, fine, marks_at_least contests row ballot c are)) in
+      let voting = and_parts (not (is_blank ballot)) (not (is_overvoted contests ballot c)) (some_vote contests ballot c h are.long some) in
+      let fine : mark_count contests ballot c ≤ limit = ltb-false limit (mark_count contests ballot c) (not-true (is_overvoted contests ballot c) voting.1) in
+      let test : nat_lt limit (marked_in contests row c) ≡ false = le-ltb limit (marked_in contests row c) (omega (arith, fine, marks_at_least contests row ballot c are)) in
       let can : most_votes contests c row ≡ min limit (possible_in contests row c) = ap (λ (b : Bool). cond b 0 (min limit (possible_in contests row c))) test in
       omega (arith, can, fine, votes_marks contests ballot c h are.long, marks_at_most contests row ballot c are)
 ]
@@ -89,11 +88,11 @@ level_le p deck c level is solution h =
     let votes = count_map (votes_in contests c) (λ (n : ℕ). nat_lt level n) deck in
     let can = count_map (most_votes contests c) (λ (n : ℕ). nat_lt level n) p.marks in
     let voting = counts_le (λ ballot. nat_lt level (votes_in contests c ballot)) (is_voting contests c) deck deck [] [] refl
-    (λ j lt above. some_vote contests (get_or deck j []) c h (solution.good.fits j [] lt) (omega (arith, less level (votes_in contests c (get_or deck j [])) above))) in
+    (λ j lt above. some_vote contests (get_or deck j []) c h (solution.good.fits j [] lt) (omega (arith, ltb-true level (votes_in contests c (get_or deck j [])) above))) in
     let possible = counts_le (λ ballot. nat_lt level (votes_in contests c ballot)) (λ row. nat_lt level (most_votes contests c row)) deck p.marks [] [] (solution.completion.size ∙ sym is.height)
     (λ j lt above.
     let alike = alike_at p deck j is solution.completion (omega (arith, lt, solution.completion.size)) in
-    is_less level (most_votes contests c (get_or p.marks j [])) (omega (arith, less level (votes_in contests c (get_or deck j [])) above, votes_possible contests (get_or p.marks j []) (get_or deck j []) c h alike))) in
+    lt-ltb level (most_votes contests c (get_or p.marks j [])) (omega (arith, ltb-true level (votes_in contests c (get_or deck j [])) above, votes_possible contests (get_or p.marks j []) (get_or deck j []) c h alike))) in
     omega (arith, votes, can, voting, possible, few_voting p deck c solution h)
 
 -- the capacity by levels
@@ -117,8 +116,8 @@ votes_fit p deck c is solution h =
 pub capacity_empty : (p : PartialDeck) (deck : List (List Bool)) (c : ℕ) → IsPartial p → IsSolution p deck → has_no_capacity p c ≡ true → ⊥
 capacity_empty p deck c is solution h =
     let contests = p.contests in
-    let parts = both (nat_lt c (length contests)) (nat_lt (capacity p c) (sum (least_totals p c))) h in
-    let c_in = less c (length contests) parts.0 in
+    let parts = and_parts (nat_lt c (length contests)) (nat_lt (capacity p c) (sum (least_totals p c))) h in
+    let c_in = ltb-true c (length contests) parts.0 in
     let least = least_sum (lo p) (hi p) (most_voting p c) p.rules.least (first_target contests c) (contest_at contests c).targets (own_total contests deck) (are_rising p deck c is solution c_in) in
     let votes = total_votes contests deck c (targets_of contests c) (λ t. own_votes contests deck t solution.good.fits) in
-    omega (arith, less (capacity p c) (sum (least_totals p c)) parts.1, least, votes, votes_fit p deck c is solution c_in)
+    omega (arith, ltb-true (capacity p c) (sum (least_totals p c)) parts.1, least, votes, votes_fit p deck c is solution c_in)

@@ -2,9 +2,10 @@
 use Rattle.std.proofs.Common.{◌≡◌, ◌+◌, ◌-◌, ◌<◌, ◌&&◌, ℕ, Bool, true, false, not, List, [], length, get_or, refl, ap, sym, ◌∙◌, arith}
 use Rattle.std.specs.List.{list_all, range_with_len}
 use Rattle.std.proofs.lemmas.List.Sums.{AllPass-from_list_all}
+use Rattle.std.proofs.lemmas.Bool.{and_parts, not-true, eqb-true}
 use Rattle.lat_base.specs.Shape.{target_count, first_target, contest_of}
 use Rattle.lat_base.specs.Misassignment.{identity, source}
-use Rattle.lat_base.specs.Tally.{reading, mark_count, votes_for, total, own_total}
+use Rattle.lat_base.specs.Tally.{reading, votes_for, total, own_total}
 use Rattle.lat_base.specs.Tally as tally
 use Rattle.readings.specs.Structural.{targets_of}
 use Rattle.readings.proofs.Places.{is_of, first_le}
@@ -27,7 +28,6 @@ use Rattle.deck_state.proofs.ShownDecks.{shown_size, shown_mark, shown_fits}
 use Rattle.close_rules.specs.Evading.{stays, is_decided, keeps_total, is_left, keeps_contest, is_misassignment, evades}
 use Rattle.close_rules.specs.Solution.{IsSolution}
 use Rattle.close_rules.proofs.Misassigned.{all_stay}
-use Rattle.close_rules.proofs.Passed.{both, not_true, equal}
 use Rattle.close_rules.proofs.Touched.{votes_alike, Touches, touches, at_target}
 
 decided_mark : (mark : Mark) (there : Bool) → Agrees mark there → not (is_undecided mark) ≡ true → is_marked mark ≡ there
@@ -65,7 +65,7 @@ kept_total p deck s u is solution touches h = by_contest (is_left p.contests s (
     read_long ballot = reading_long ballot s ∙ touches.is.long
 
     decided_at : (v : ℕ) → v < target_count p.contests → is_left p.contests s (contest_of p.contests v) ≡ false → is_decided p (contest_of p.contests v) ≡ true
-    decided_at v lt left = (both (is_decided p (contest_of p.contests v)) (list_all (keeps_total p s) (targets_of p.contests (contest_of p.contests v))) (touches.kept v lt left)).0
+    decided_at v lt left = (and_parts (is_decided p (contest_of p.contests v)) (list_all (keeps_total p s) (targets_of p.contests (contest_of p.contests v))) (touches.kept v lt left)).0
 
     -- a target of a contest that is left has its own source, so the source of another is of one that isn't
     source_touched : (v : ℕ) → v < target_count p.contests → is_left p.contests s (contest_of p.contests v) ≡ false → is_left p.contests s (contest_of p.contests (source s v)) ≡ false
@@ -107,8 +107,8 @@ kept_total p deck s u is solution touches h = by_contest (is_left p.contests s (
         ap (λ (ballot : List Bool). votes_for p.contests ballot u) (reading_identity (get_or deck j []) (target_count p.contests) long)
         ∙ (votes_alike p.contests (get_or deck j []) (get_or (shown p) j []) u h long row_long (λ v v_in same. same_mark p deck j v is solution j_in v_in (decided_at v v_in (ap (is_left p.contests s) same ∙ left)))
         ∙ ap (λ (ballot : List Bool). votes_for p.contests ballot u) (sym (reading_identity (get_or (shown p) j []) (target_count p.contests) row_long)))) in
-        let totals = (both (is_decided p (contest_of p.contests u)) (list_all (keeps_total p s) (targets_of p.contests (contest_of p.contests u))) (touches.kept u h left)).1 in
-        let kept = equal (total p.contests (shown p) s u) (own_total p.contests (shown p) u) (at_target p.contests (keeps_total p s) u h totals) in
+        let totals = (and_parts (is_decided p (contest_of p.contests u)) (list_all (keeps_total p s) (targets_of p.contests (contest_of p.contests u))) (touches.kept u h left)).1 in
+        let kept = eqb-true (total p.contests (shown p) s u) (own_total p.contests (shown p) u) (at_target p.contests (keeps_total p s) u h totals) in
         read ∙ (kept ∙ sym own)
 
 -- a misassignment that evades leaves no solution
@@ -118,6 +118,6 @@ evade_empty p deck s is solution h =
     let known = touches p s h in
     let same = solution.good.robust s known.is (same_report p.contests deck s (identity n) (λ u lt. kept_total p deck s u is solution known lt)) in
     let as_long : s ≡ identity (length s) = same ∙ ap identity (sym known.is.long) in
-    let one = both (is_misassignment n s) (not (list_all (stays s) (range_with_len 0 n)) && list_all (keeps_contest p s) (range_with_len 0 (length p.contests))) h in
-    let moved = not_true (list_all (stays s) (range_with_len 0 n)) (both (not (list_all (stays s) (range_with_len 0 n))) (list_all (keeps_contest p s) (range_with_len 0 (length p.contests))) one.1).0 in
+    let one = and_parts (is_misassignment n s) (not (list_all (stays s) (range_with_len 0 n)) && list_all (keeps_contest p s) (range_with_len 0 (length p.contests))) h in
+    let moved = not-true (list_all (stays s) (range_with_len 0 n)) (and_parts (not (list_all (stays s) (range_with_len 0 n))) (list_all (keeps_contest p s) (range_with_len 0 (length p.contests))) one.1).0 in
     let bad : true ≡ false = sym (all_stay n s known.is.long as_long) ∙ moved in cc

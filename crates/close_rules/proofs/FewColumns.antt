@@ -5,16 +5,15 @@ use Rattle.std.proofs.Math.Nat.{two-pow-succ}
 use Rattle.std.proofs.Math.Pow.{pow_mono}
 use Rattle.std.proofs.lemmas.List.Elements.{All-cons, All-nil}
 use Rattle.std.proofs.lemmas.List.Sums.{sum_by-cons}
-use Rattle.std.proofs.lemmas.Bool.{cases_lt}
+use Rattle.std.proofs.lemmas.Bool.{cases_lt, and_parts, not-true, le-ltb}
 use Rattle.lat_base.specs.Tally.{is_marked}
 use Rattle.readings.proofs.Counting.{split_count}
-use Rattle.close_rules.proofs.Passed.{both, not_true, is_not_less}
 
 -- eight ballots have a column for each target
 pub many_columns : (k n : ℕ) → 8 ≤ k → n ≤ 256 → nat_lt k 8 ≡ nat_lt (2 ^ k) n
 many_columns k n h few =
     let many : 2 ^ 8 ≤ 2 ^ k = pow_mono h in
-    is_not_less k 8 h ∙ sym (is_not_less (2 ^ k) n (omega (arith, many, few)))
+    le-ltb k 8 h ∙ sym (le-ltb (2 ^ k) n (omega (arith, many, few)))
 
 -- all pass the test that is always true
 pub all_counted : (ns : List ℕ) → count_by (λ n. true) ns ≡ length ns
@@ -92,11 +91,11 @@ with_ballot test half n ballot deck mark tell found =
 pub two_alike : (n : ℕ) (deck : List (List Bool)) (test : ℕ → Bool) → 2 ^ length deck < count_by test (range_with_len 0 n) → AreSame test 0 n deck
 two_alike n [] test h = two_pass test 0 n (omega (arith, h))
 two_alike n (ballot ∷ deck) test h = elim (cases_lt (2 ^ length deck) (count_by (λ u. test u && is_marked ballot u) (range_with_len 0 n))) [
-  | inl many ↦ with_ballot test (λ u. test u && is_marked ballot u) n ballot deck true (λ u passes. both (test u) (is_marked ballot u) passes) (two_alike n deck (λ u. test u && is_marked ballot u) many)
+  | inl many ↦ with_ballot test (λ u. test u && is_marked ballot u) n ballot deck true (λ u passes. and_parts (test u) (is_marked ballot u) passes) (two_alike n deck (λ u. test u && is_marked ballot u) many)
   | inr few ↦
       let double : 2 ^ length (ballot ∷ deck) ≡ 2 ^ length deck + 2 ^ length deck = two-pow-succ (length deck) in
       let many : 2 ^ length deck < count_by (λ u. test u && not (is_marked ballot u)) (range_with_len 0 n) = omega (arith, h, few, double, split_count test (is_marked ballot) (range_with_len 0 n)) in
       with_ballot test (λ u. test u && not (is_marked ballot u)) n ballot deck false
-      (λ u passes. let parts = both (test u) (not (is_marked ballot u)) passes in (parts.0, not_true (is_marked ballot u) parts.1))
+      (λ u passes. let parts = and_parts (test u) (not (is_marked ballot u)) passes in (parts.0, not-true (is_marked ballot u) parts.1))
       (two_alike n deck (λ u. test u && not (is_marked ballot u)) many)
 ]

@@ -8,13 +8,14 @@ use Rattle.std.specs.declared.cmp.Ordering.TheVariants.{Less, Equal, Greater}
 use Rattle.std.proofs.lemmas.List.{same_lists}
 use Rattle.std.proofs.lemmas.List.FromFn.{get_or-map-range_with_len, length-map-range_with_len}
 use Rattle.std.proofs.lemmas.Map.Lookups.{exact_bytes}
+use Rattle.std.proofs.lemmas.Bool.{and_parts, ltb-true, eqb-true}
 use Rattle.lat_base.specs.declared.contest.Contest.{Contest}
 use Rattle.lat_base.specs.Shape.{target_count, first_target, contest_at, no_contest}
 use Rattle.lat_base.specs.Misassignment.{identity}
 use Rattle.lat_base.specs.Tally.{report, own_total}
 use Rattle.lat_base.specs.Canonical.{totals_in}
 use Rattle.readings.specs.Structural.{targets_of}
-use Rattle.readings.proofs.Places.{first_next, first_le}
+use Rattle.readings.proofs.Places.{first_next, first_le, nth_within}
 use Rattle.readings.proofs.Reports.{alike}
 use Rattle.readings.proofs.ContestExchange.{twins_differ}
 use Rattle.deck_state.specs.PartialDeck.{PartialDeck}
@@ -24,8 +25,7 @@ use Rattle.deck_state.proofs.Compared.{slice_long, slice_at}
 use Rattle.deck_state.proofs.Enclosed.{lo_le, le_hi}
 use Rattle.close_rules.specs.Fixed.{lows, is_fixed, has_shape_of, are_comparable, are_twins, are_out_of_order}
 use Rattle.close_rules.specs.Solution.{IsSolution}
-use Rattle.close_rules.proofs.Along.{inside}
-use Rattle.close_rules.proofs.Passed.{both, less, equal, at_number}
+use Rattle.close_rules.proofs.Passed.{at_number}
 
 -- the totals of a contest, one by one
 pub totals_are : (contests : List Contest) (deck : List (List Bool)) (c : ℕ) → c < length contests → totals_in contests deck c ≡ map (own_total contests deck) (targets_of contests c)
@@ -40,7 +40,7 @@ totals_are contests deck c h =
     (λ i d lt.
     let i_in : i < n = omega (arith, lt, long) in
     slice_at all first (first_target contests (c + 1)) i d (omega (arith, i_in, next))
-    ∙ (get_or-map-range_with_len (own_total contests deck) 0 (target_count contests) (first + i) (first + i) d (inside contests c i h i_in) (omega arith)
+    ∙ (get_or-map-range_with_len (own_total contests deck) 0 (target_count contests) (first + i) (first + i) d (nth_within contests c i h i_in) (omega arith)
     ∙ sym (get_or-map-range_with_len (own_total contests deck) first n i (first + i) d i_in refl)))
 
 -- the totals that are known are those of the deck
@@ -52,8 +52,8 @@ lows_are p deck c is solution h fixed =
     (λ t from to.
     let place : first + (t - first) ≡ t = omega (arith, from) in
     let i_in : t - first < n = omega (arith, from, to) in
-    let t_in : t < target_count p.contests = omega (arith, place, inside p.contests c (t - first) h i_in) in
-    let known : lo p t ≡ hi p t = equal (lo p t) (hi p t) (ap (λ (u : ℕ). lo p u == hi p u) (sym place) ∙ at_number (λ u. lo p u == hi p u) first n (t - first) fixed i_in) in
+    let t_in : t < target_count p.contests = omega (arith, place, nth_within p.contests c (t - first) h i_in) in
+    let known : lo p t ≡ hi p t = eqb-true (lo p t) (hi p t) (ap (λ (u : ℕ). lo p u == hi p u) (sym place) ∙ at_number (λ u. lo p u == hi p u) first n (t - first) fixed i_in) in
     omega (arith, known, lo_le p deck t is solution.completion t_in, le_hi p deck t is solution.completion t_in))
 
 -- two contests of one shape whose totals are known, and what is known of them
@@ -67,21 +67,21 @@ record AreKnown (p : PartialDeck) (deck : List (List Bool)) (c d : ℕ) : Type 0
 
 same_shape : (c d : Contest) → has_shape_of c d ≡ true → c ≡ d
 same_shape c d h =
-    let parts = both (c.limit == d.limit) (c.targets == d.targets) h in
-    let limits = equal c.limit d.limit parts.0 in
-    let targets = equal c.targets d.targets parts.1 in
+    let parts = and_parts (c.limit == d.limit) (c.targets == d.targets) h in
+    let limits = eqb-true c.limit d.limit parts.0 in
+    let targets = eqb-true c.targets d.targets parts.1 in
     λ i. record { limit = limits i; targets = targets i }
 
 are_known : (p : PartialDeck) (deck : List (List Bool)) (c d : ℕ) → IsPartial p → IsSolution p deck → are_comparable p c d ≡ true → AreKnown p deck c d
 are_known p deck c d is solution h =
     let contests = p.contests in
     let shape = has_shape_of (contest_at contests c) (contest_at contests d) in
-    let one = both (nat_lt c d) (nat_lt d (length contests) && (shape && (is_fixed p c && is_fixed p d))) h in
-    let two = both (nat_lt d (length contests)) (shape && (is_fixed p c && is_fixed p d)) one.1 in
-    let three = both shape (is_fixed p c && is_fixed p d) two.1 in
-    let four = both (is_fixed p c) (is_fixed p d) three.1 in
-    let before = less c d one.0 in
-    let second_in = less d (length contests) two.0 in
+    let one = and_parts (nat_lt c d) (nat_lt d (length contests) && (shape && (is_fixed p c && is_fixed p d))) h in
+    let two = and_parts (nat_lt d (length contests)) (shape && (is_fixed p c && is_fixed p d)) one.1 in
+    let three = and_parts shape (is_fixed p c && is_fixed p d) two.1 in
+    let four = and_parts (is_fixed p c) (is_fixed p d) three.1 in
+    let before = ltb-true c d one.0 in
+    let second_in = ltb-true d (length contests) two.0 in
     let first_in : c < length contests = omega (arith, before, second_in) in
     record {
       before = before;
@@ -106,7 +106,7 @@ compares_greater Greater h = refl
 pub twins_empty : (p : PartialDeck) (deck : List (List Bool)) (c d : ℕ) → IsPartial p → IsSolution p deck → are_twins p c d ≡ true → ⊥
 twins_empty p deck c d is solution h =
     let contests = p.contests in
-    let parts = both (are_comparable p c d) (is_eq (slice_cmp nat_cmp (lows p c) (lows p d))) h in
+    let parts = and_parts (are_comparable p c d) (is_eq (slice_cmp nat_cmp (lows p c) (lows p d))) h in
     let known = are_known p deck c d is solution parts.0 in
     let same : lows p c ≡ lows p d = exact_bytes (lows p c) (lows p d) (compares_equal (slice_cmp nat_cmp (lows p c) (lows p d)) parts.1) in
     let lists : map (own_total contests deck) (targets_of contests c) ≡ map (own_total contests deck) (targets_of contests d) = sym known.first ∙ (same ∙ known.second) in
@@ -120,7 +120,7 @@ twins_empty p deck c d is solution h =
 pub contest_order_empty : (p : PartialDeck) (deck : List (List Bool)) (c d : ℕ) → IsPartial p → IsSolution p deck → are_out_of_order p c d ≡ true → ⊥
 contest_order_empty p deck c d is solution h =
     let contests = p.contests in
-    let parts = both (are_comparable p c d) (is_gt (slice_cmp nat_cmp (lows p c) (lows p d))) h in
+    let parts = and_parts (are_comparable p c d) (is_gt (slice_cmp nat_cmp (lows p c) (lows p d))) h in
     let known = are_known p deck c d is solution parts.0 in
     let first : totals_in contests deck c ≡ lows p c = totals_are contests deck c known.first_in ∙ sym known.first in
     let second : totals_in contests deck d ≡ lows p d = totals_are contests deck d known.second_in ∙ sym known.second in

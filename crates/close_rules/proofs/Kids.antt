@@ -1,7 +1,7 @@
 -- The kids of a partial deck under a label share its solutions.
 use Rattle.std.proofs.Common.{◌≡◌, ◌-◌, ◌<◌, ◌≤◌, ◌&&◌, ◌⊎◌, inl, inr, ℕ, Bool, true, false, nat_lt, nat_le, cond, List, [], get_or, refl, arith}
 use Rattle.std.specs.Prelude.{◌==◌}
-use Rattle.std.proofs.lemmas.Bool.{cases_lt}
+use Rattle.std.proofs.lemmas.Bool.{cases_lt, and_parts, ltb-true}
 use Rattle.std.proofs.lemmas.Bool.Decides.{nat_tests}
 use Rattle.lat_base.specs.Shape.{target_count}
 use Rattle.lat_base.specs.Tally.{own_total}
@@ -21,7 +21,6 @@ use Rattle.close_rules.specs.declared.label.Label.{Label}
 use Rattle.close_rules.specs.declared.label.Label.TheVariants.{Mark as MarkOf, Split}
 use Rattle.close_rules.specs.Moves.{is_allowed, kid_of}
 use Rattle.close_rules.specs.Solution.{IsSolution}
-use Rattle.close_rules.proofs.Passed.{both, less}
 
 undecided_is : (mark : Mark) → is_undecided mark ≡ true → mark ≡ Undecided
 undecided_is Marked h = cc
@@ -30,9 +29,9 @@ undecided_is Undecided h = refl
 
 can_decide : (p : PartialDeck) (j t : ℕ) → is_allowed p (MarkOf j t) ≡ true → CanDecide p j t
 can_decide p j t h =
-    let one = both (nat_lt j p.ballots) (nat_lt t (target_count p.contests) && is_undecided (mark_at p j t)) h in
-    let two = both (nat_lt t (target_count p.contests)) (is_undecided (mark_at p j t)) one.1 in
-    record { ballot = less j p.ballots one.0; target = less t (target_count p.contests) two.0; undecided = undecided_is (mark_at p j t) two.1 }
+    let one = and_parts (nat_lt j p.ballots) (nat_lt t (target_count p.contests) && is_undecided (mark_at p j t)) h in
+    let two = and_parts (nat_lt t (target_count p.contests)) (is_undecided (mark_at p j t)) one.1 in
+    record { ballot = ltb-true j p.ballots one.0; target = ltb-true t (target_count p.contests) two.0; undecided = undecided_is (mark_at p j t) two.1 }
 
 -- what a split shows
 record CanSplit (p : PartialDeck) (t x : ℕ) : Type 0 where
@@ -42,9 +41,9 @@ record CanSplit (p : PartialDeck) (t x : ℕ) : Type 0 where
 
 can_split : (p : PartialDeck) (t x : ℕ) → is_allowed p (Split t x) ≡ true → CanSplit p t x
 can_split p t x h =
-    let one = both (nat_lt t (target_count p.contests)) (nat_lt (lo p t) x && nat_le x (hi p t)) h in
-    let two = both (nat_lt (lo p t) x) (nat_le x (hi p t)) one.1 in
-    record { target = less t (target_count p.contests) one.0; above = less (lo p t) x two.0; below = at_most x (hi p t) two.1 }
+    let one = and_parts (nat_lt t (target_count p.contests)) (nat_lt (lo p t) x && nat_le x (hi p t)) h in
+    let two = and_parts (nat_lt (lo p t) x) (nat_le x (hi p t)) one.1 in
+    record { target = ltb-true t (target_count p.contests) one.0; above = ltb-true (lo p t) x two.0; below = at_most x (hi p t) two.1 }
   where
     at_most : (a b : ℕ) → nat_le a b ≡ true → a ≤ b
     at_most a b e = grind (arith, nat_tests, e)

@@ -2,9 +2,10 @@
 use Rattle.std.proofs.Common.{◌≡◌, ◌+◌, ◌<◌, ◌≤◌, ◌||◌, ℕ, zero, suc, Bool, true, nat_lt, max, List, [], length, get_or, map, count_by, subst, refl, sym, ap, ◌∙◌, arith}
 use Rattle.std.specs.List.{range_with_len, sum}
 use Rattle.std.proofs.lemmas.List.Sums.{sum_by-cons}
+use Rattle.std.proofs.lemmas.Bool.{and_parts, ltb-true, le-ltb}
 use Rattle.lat_base.specs.Shape.{target_count, first_target, contest_at, contest_of}
 use Rattle.lat_base.specs.Tally.{votes_for, own_total}
-use Rattle.readings.proofs.Places.{IsOf, nth_is_of, contest_is, first_le}
+use Rattle.readings.proofs.Places.{IsOf, nth_is_of, contest_is, first_le, nth_within}
 use Rattle.readings.proofs.TargetExchange.{totals_differ}
 use Rattle.deck_state.specs.PartialDeck.{PartialDeck}
 use Rattle.deck_state.specs.Trail.{IsPartial}
@@ -13,8 +14,7 @@ use Rattle.deck_state.proofs.Compared.{counts_le}
 use Rattle.deck_state.proofs.Enclosed.{lo_le, le_hi, own_votes}
 use Rattle.close_rules.specs.Totals.{is_above, least_rising, least_totals, highs, most_voting, has_no_totals}
 use Rattle.close_rules.specs.Solution.{IsSolution}
-use Rattle.close_rules.proofs.Along.{inside}
-use Rattle.close_rules.proofs.Passed.{both, less, is_not_less, second}
+use Rattle.close_rules.proofs.Passed.{second}
 use Rattle.close_rules.proofs.Voting.{is_voting, few_voting, vote_is_voting}
 
 -- no total of a solution is above the ballots that can vote in its contest
@@ -75,8 +75,8 @@ none_above low high most from t (suc n) totals are h =
     let rest = is_above most (least_rising (x + 1) (map low (range_with_len (t + 1) n))) (map high (range_with_len (t + 1) n)) in
     none_above low high most (x + 1) (t + 1) n totals first.rest
     (second (nat_lt most x) rest
-    (second (nat_lt (high t) x) (nat_lt most x || rest) h (is_not_less (high t) x (omega (arith, first.least, first.below))))
-    (is_not_less most x (omega (arith, first.least, first.few))))
+    (second (nat_lt (high t) x) (nat_lt most x || rest) h (le-ltb (high t) x (omega (arith, first.least, first.below))))
+    (le-ltb most x (omega (arith, first.least, first.few))))
 
 -- and their sum is at least that of the least ones
 pub least_sum : (low high : ℕ → ℕ) (most from t n : ℕ) (totals : ℕ → ℕ) → AreRising low high most from t n totals → sum (least_rising from (map low (range_with_len t n))) ≤ sum (map totals (range_with_len t n))
@@ -96,8 +96,8 @@ least_sum low high most from t (suc n) totals are =
 pub are_rising : (p : PartialDeck) (deck : List (List Bool)) (c : ℕ) → IsPartial p → IsSolution p deck → c < length p.contests
     → AreRising (lo p) (hi p) (most_voting p c) p.rules.least (first_target p.contests c) (contest_at p.contests c).targets (own_total p.contests deck)
 are_rising p deck c is solution h = record {
-  above = λ i lt. lo_le p deck (first_target p.contests c + i) is solution.completion (inside p.contests c i h lt);
-  below = λ i lt. le_hi p deck (first_target p.contests c + i) is solution.completion (inside p.contests c i h lt);
+  above = λ i lt. lo_le p deck (first_target p.contests c + i) is solution.completion (nth_within p.contests c i h lt);
+  below = λ i lt. le_hi p deck (first_target p.contests c + i) is solution.completion (nth_within p.contests c i h lt);
   few = λ i lt. total_at_most p deck c (first_target p.contests c + i) solution (nth_is_of p.contests c i h lt);
   rise = λ i lt.
       let first = first_target p.contests c in
@@ -106,7 +106,7 @@ are_rising p deck c is solution h = record {
       let up = solution.canonical.totals (first + i) (omega (arith, there.to, first_le p.contests (c + 1))) (contest_is p.contests c (first + i) here ∙ sym (contest_is p.contests c (first + i + 1) there)) in
       less_of (own_total p.contests deck (first + i)) (own_total p.contests deck (first + i + 1)) up
       (totals_differ p.contests deck c (first + i) (first + i + 1) solution.good.robust solution.good.fits here there (omega arith));
-  begins = λ some. subst (λ (x : ℕ). p.rules.least ≤ own_total p.contests deck x) (at_start (first_target p.contests c)) (solution.good.obeys.least (first_target p.contests c + 0) (inside p.contests c 0 h some));
+  begins = λ some. subst (λ (x : ℕ). p.rules.least ≤ own_total p.contests deck x) (at_start (first_target p.contests c)) (solution.good.obeys.least (first_target p.contests c + 0) (nth_within p.contests c 0 h some));
 }
   where
     next : (a i : ℕ) → a + (i + 1) ≡ a + i + 1
@@ -121,6 +121,6 @@ are_rising p deck c is solution h = record {
 -- a least total above what it can be leaves no solution
 pub totals_empty : (p : PartialDeck) (deck : List (List Bool)) (c : ℕ) → IsPartial p → IsSolution p deck → has_no_totals p c ≡ true → ⊥
 totals_empty p deck c is solution h =
-    let parts = both (nat_lt c (length p.contests)) (is_above (most_voting p c) (least_totals p c) (highs p c)) h in
+    let parts = and_parts (nat_lt c (length p.contests)) (is_above (most_voting p c) (least_totals p c) (highs p c)) h in
     none_above (lo p) (hi p) (most_voting p c) p.rules.least (first_target p.contests c) (contest_at p.contests c).targets (own_total p.contests deck)
-    (are_rising p deck c is solution (less c (length p.contests) parts.0)) parts.1
+    (are_rising p deck c is solution (ltb-true c (length p.contests) parts.0)) parts.1

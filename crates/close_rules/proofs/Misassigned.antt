@@ -2,45 +2,42 @@
 use Rattle.std.proofs.Common.{◌≡◌, ◌+◌, ◌<◌, ◌&&◌, ℕ, Bool, true, false, not, List, length, count_by, refl, ap, sym, subst, ◌∙◌, arith}
 use Rattle.std.specs.Prelude.{◌==◌}
 use Rattle.std.specs.List.{list_all, range_with_len}
-use Rattle.std.proofs.lemmas.Bool.Decides.{nat_tests}
+use Rattle.std.proofs.lemmas.Bool.{and_parts, eqb-true, eq-eqb}
 use Rattle.lat_base.specs.Misassignment.{IsMisassignment, identity, source}
 use Rattle.lat_misassign.specs.Sources.{AreSources}
-use Rattle.lat_misassign.proofs.Identity.{identity_at, identity_from}
+use Rattle.lat_misassign.proofs.Identity.{source_at_identity, identity_from}
 use Rattle.close_rules.specs.Evading.{is_misassignment, stays}
-use Rattle.close_rules.proofs.Passed.{both, equal, at_number, each_number}
+use Rattle.close_rules.proofs.Passed.{at_number, each_number}
 
 -- a test that each number below n passes
 all_pass : (test : ℕ → Bool) (n : ℕ) → ((t : ℕ) → t < n → test t ≡ true) → list_all test (range_with_len 0 n) ≡ true
 all_pass test n h = each_number test 0 n (λ i lt. let here : 0 + i ≡ i = omega arith in ap test here ∙ h i lt)
 
-pub is_equal : (a b : ℕ) → a ≡ b → (a == b) ≡ true
-is_equal a b e = grind (arith, nat_tests, e)
-
 -- a misassignment passes the test of one
 pub is_passed : (n : ℕ) (s : List ℕ) → IsMisassignment n s → is_misassignment n s ≡ true
-is_passed n s is = λ i. is_equal (length s) n is.long i && all_pass (λ t. count_by (λ x. x == t) s == 1) n (λ t lt. is_equal (count_by (λ x. x == t) s) 1 (is.once t lt)) i
+is_passed n s is = λ i. eq-eqb (length s) n is.long i && all_pass (λ t. count_by (λ x. x == t) s == 1) n (λ t lt. eq-eqb (count_by (λ x. x == t) s) 1 (is.once t lt)) i
 
 -- and what passes it is one
 pub passed_is : (n : ℕ) (s : List ℕ) → is_misassignment n s ≡ true → IsMisassignment n s
 passed_is n s h =
-    let parts = both (length s == n) (list_all (λ t. count_by (λ x. x == t) s == 1) (range_with_len 0 n)) h in
+    let parts = and_parts (length s == n) (list_all (λ t. count_by (λ x. x == t) s == 1) (range_with_len 0 n)) h in
     record {
-      long = equal (length s) n parts.0;
+      long = eqb-true (length s) n parts.0;
       once = λ t lt.
           let here : 0 + t ≡ t = omega arith in
-          equal (count_by (λ x. x == t) s) 1 (ap (λ (u : ℕ). count_by (λ x. x == u) s == 1) (sym here) ∙ at_number (λ t. count_by (λ x. x == t) s == 1) 0 n t parts.1 lt);
+          eqb-true (count_by (λ x. x == t) s) 1 (ap (λ (u : ℕ). count_by (λ x. x == u) s == 1) (sym here) ∙ at_number (λ t. count_by (λ x. x == t) s == 1) 0 n t parts.1 lt);
     }
 
 -- in the identity each target counts for itself
 pub all_stay : (n : ℕ) (s : List ℕ) → length s ≡ n → s ≡ identity (length s) → list_all (stays s) (range_with_len 0 n) ≡ true
-all_stay n s long e = all_pass (stays s) n (λ u lt. is_equal (source s u) u (identity_at s u (omega (arith, lt, long)) e))
+all_stay n s long e = all_pass (stays s) n (λ u lt. eq-eqb (source s u) u (source_at_identity s u (omega (arith, lt, long)) e))
 
 -- and only in it
 pub stay_identity : (n : ℕ) (s : List ℕ) → length s ≡ n → list_all (stays s) (range_with_len 0 n) ≡ true → s ≡ identity (length s)
 stay_identity n s long h =
     identity_from s (λ u lt.
     let here : 0 + u ≡ u = omega arith in
-    equal (source s u) u (ap (stays s) (sym here) ∙ at_number (stays s) 0 n u h (omega (arith, lt, long))))
+    eqb-true (source s u) u (ap (stays s) (sym here) ∙ at_number (stays s) 0 n u h (omega (arith, lt, long))))
 
 -- the identity evades nothing
 pub identity_not : (n : ℕ) (s : List ℕ) (rest : Bool) → length s ≡ n → s ≡ identity (length s) → false ≡ (is_misassignment n s && (not (list_all (stays s) (range_with_len 0 n)) && rest))

@@ -3,6 +3,7 @@ use Rattle.std.proofs.Common.{◌≡◌, ◌+◌, ◌-◌, ◌<◌, ℕ, suc, Bo
 use Rattle.std.specs.Ordering.{bool_cmp}
 use Rattle.std.specs.Cmp.Lexicographic.{slice_cmp}
 use Rattle.std.specs.declared.cmp.Ordering.TheVariants.{Less}
+use Rattle.std.proofs.lemmas.Bool.{and_parts, ltb-true}
 use Rattle.lat_base.specs.Shape.{target_count}
 use Rattle.deck_state.specs.declared.mark.Mark.{Mark}
 use Rattle.deck_state.specs.declared.mark.Mark.TheVariants.{Marked, Unmarked, Undecided}
@@ -12,7 +13,6 @@ use Rattle.deck_state.specs.Completion.{Agrees}
 use Rattle.deck_state.proofs.Alike.{AreAlike, alike_at}
 use Rattle.close_rules.specs.Order.{is_smaller, is_out_of_order}
 use Rattle.close_rules.specs.Solution.{IsSolution}
-use Rattle.close_rules.proofs.Passed.{both, less}
 
 -- a row and a ballot that agree, mark by mark
 abbrev AgreeAll : List Mark → List Bool → Type 0
@@ -51,8 +51,8 @@ smaller_less (Undecided ∷ row) (o ∷ other) (k ∷ a) (l ∷ b) x y h = cc
 -- a ballot that is smaller than the next leaves no solution
 pub order_empty : (p : PartialDeck) (deck : List (List Bool)) (j : ℕ) → IsPartial p → IsSolution p deck → is_out_of_order p j ≡ true → ⊥
 order_empty p deck j is solution h =
-    let parts = both (nat_lt (j + 1) p.ballots) (is_smaller (row_at p j) (row_at p (j + 1))) h in
-    let within : j + 1 < p.ballots = less (j + 1) p.ballots parts.0 in
+    let parts = and_parts (nat_lt (j + 1) p.ballots) (is_smaller (row_at p j) (row_at p (j + 1))) h in
+    let within : j + 1 < p.ballots = ltb-true (j + 1) p.ballots parts.0 in
     solution.canonical.ballots j (omega (arith, within, solution.completion.size))
     (smaller_less (row_at p j) (row_at p (j + 1)) (get_or deck j []) (get_or deck (j + 1) [])
     (agree_all (target_count p.contests) (row_at p j) (get_or deck j []) (alike_at p deck j is solution.completion (omega (arith, within))))

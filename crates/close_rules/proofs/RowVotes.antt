@@ -1,5 +1,5 @@
 -- Votes of a row of marks, undecided ones being none.
-use Rattle.std.proofs.Common.{◌≡◌, ◌+◌, ◌-◌, ◌<◌, ◌≤◌, ◌&&◌, ℕ, Bool, true, false, not, nat_lt, nat_le, List, length, take, drop, get_or, cond, count_by, map, refl, ap, sym, ◌∙◌, arith}
+use Rattle.std.proofs.Common.{◌≡◌, ◌+◌, ◌-◌, ◌<◌, ◌≤◌, ◌&&◌, ℕ, Bool, true, false, not, nat_lt, nat_le, List, length, take, drop, get_or, cond, count_by, map, ap, sym, ◌∙◌, arith}
 use mir.Val.{bool_byte}
 use Rattle.std.specs.Prelude.{slice_range}
 use Rattle.std.proofs.lemmas.List.{get_or-map, drop-map, take-map}
@@ -9,6 +9,7 @@ use Rattle.lat_base.specs.Shape.{first_target, contest_at, contest_of}
 use Rattle.lat_base.specs.Misassignment.{source}
 use Rattle.lat_base.specs.Tally.{mark_count, votes_for, reading, own_total, total}
 use Rattle.lat_base.specs.Tally as tally
+use Rattle.deck_state.proofs.Seen.{byte_is}
 use Rattle.lat_misassign.specs.Sources.{AreSources}
 use Rattle.readings.proofs.Counting.{count_map}
 use Rattle.readings.proofs.Grouped.{slice_more}
@@ -31,14 +32,6 @@ source_in n s row u x are long wide h is = omega (arith, is, long, wide, source_
 pub read_mark : (s : List ℕ) (row : List Mark) (u x : ℕ) (d : Mark) → u < length s → x < length row → x ≡ source s u → tally.is_marked (reading (map is_marked row) s) u ≡ is_marked (get_or row x d)
 read_mark s row u x d h k is =
     reading_at (map is_marked row) s u h ∙ (ap (λ (y : ℕ). tally.is_marked (map is_marked row) y) (sym is) ∙ get_or-map is_marked row x d false k)
-
-byte_is : (b : Bool) → bool_byte b ≡ cond b 1 0
-byte_is true = refl
-byte_is false = refl
-
-pub at_most_one : (b : Bool) → bool_byte b ≤ 1
-at_most_one true = omega arith
-at_most_one false = omega arith
 
 -- one more mark as a row is read
 pub read_more : (s : List ℕ) (row : List Mark) (first u count one : ℕ) (mark : Bool) → first ≤ u → u < length s → count ≡ count_by (λ m. m) (slice_range (reading (map is_marked row) s) first u)

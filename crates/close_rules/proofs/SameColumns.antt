@@ -6,6 +6,7 @@ use Rattle.std.proofs.lemmas.Bool.Decides.{nat_tests}
 use Rattle.std.proofs.lemmas.List.{get_or_default}
 use Rattle.std.proofs.lemmas.List.FromFn.{length-range_with_len}
 use Rattle.std.proofs.lemmas.List.Sums.{AllPass-from_list_all}
+use Rattle.std.proofs.lemmas.Bool.{and_parts, ltb-true}
 use Rattle.lat_base.specs.Shape.{target_count}
 use Rattle.lat_base.specs.Tally as tally
 use Rattle.readings.proofs.RobustDecks.{columns_differ}
@@ -18,7 +19,6 @@ use Rattle.deck_state.proofs.Alike.{alike_at}
 use Rattle.close_rules.specs.Columns.{is_same, has_same, have_same_columns, has_few_columns}
 use Rattle.close_rules.specs.Solution.{IsSolution}
 use Rattle.close_rules.proofs.FewColumns.{two_alike, all_counted}
-use Rattle.close_rules.proofs.Passed.{both, less}
 
 same_marks : (mark other : Mark) (a b : Bool) → Agrees mark a → Agrees other b → is_same mark other ≡ true → a ≡ b
 same_marks Marked Marked a b x y h = x ∙ sym y
@@ -33,11 +33,11 @@ same_marks Undecided other a b x y h = cc
 pub same_empty : (p : PartialDeck) (deck : List (List Bool)) (t u : ℕ) → IsPartial p → IsSolution p deck → have_same_columns p t u ≡ true → ⊥
 same_empty p deck t u is solution h =
     let n = target_count p.contests in
-    let one = both (nat_lt t n) (nat_lt u n && (not (t == u) && list_all (has_same t u) p.marks)) h in
-    let two = both (nat_lt u n) (not (t == u) && list_all (has_same t u) p.marks) one.1 in
-    let three = both (not (t == u)) (list_all (has_same t u) p.marks) two.1 in
-    let t_in : t < n = less t n one.0 in
-    let u_in : u < n = less u n two.0 in
+    let one = and_parts (nat_lt t n) (nat_lt u n && (not (t == u) && list_all (has_same t u) p.marks)) h in
+    let two = and_parts (nat_lt u n) (not (t == u) && list_all (has_same t u) p.marks) one.1 in
+    let three = and_parts (not (t == u)) (list_all (has_same t u) p.marks) two.1 in
+    let t_in : t < n = ltb-true t n one.0 in
+    let u_in : u < n = ltb-true u n two.0 in
     let other : t ≢ u = grind (arith, nat_tests, three.0) in
     let rows = AllPass-from_list_all (has_same t u) p.marks three.1 in
     columns_differ p.contests deck t u solution.good.robust solution.good.fits t_in u_in other
@@ -53,7 +53,7 @@ same_empty p deck t u is solution h =
 pub columns_empty : (p : PartialDeck) (deck : List (List Bool)) → IsSolution p deck → has_few_columns p ≡ true → ⊥
 columns_empty p deck solution h =
     let n = target_count p.contests in
-    let few : 2 ^ p.ballots < n = less (2 ^ p.ballots) n h in
+    let few : 2 ^ p.ballots < n = ltb-true (2 ^ p.ballots) n h in
     let size : 2 ^ length deck ≡ 2 ^ p.ballots = ap (λ (k : ℕ). 2 ^ k) solution.completion.size in
     let found = two_alike n deck (λ u. true) (omega (arith, few, size, all_counted (range_with_len 0 n), length-range_with_len 0 n)) in
     columns_differ p.contests deck found.first found.second solution.good.robust solution.good.fits (omega (arith, found.first_in)) (omega (arith, found.second_in)) found.other found.same

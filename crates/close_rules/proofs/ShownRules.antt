@@ -5,6 +5,7 @@ use Rattle.std.specs.Ordering.{bool_cmp}
 use Rattle.std.specs.Cmp.Lexicographic.{slice_cmp}
 use Rattle.std.specs.declared.cmp.Ordering.TheVariants.{Less}
 use Rattle.std.proofs.lemmas.List.{get_or-map}
+use Rattle.std.proofs.lemmas.Bool.{lt-ltb, ltb-false}
 use Rattle.lat_base.specs.Shape.{contest_at}
 use Rattle.lat_base.specs.Tally.{is_overvoted}
 use Rattle.lat_base.specs.Rules.{is_blank}
@@ -19,7 +20,7 @@ use Rattle.close_rules.specs.Ballots.{may_be_blank, may_be_overvoted, lacks_blan
 use Rattle.close_rules.specs.Order.{is_smaller, is_out_of_order}
 use Rattle.close_rules.specs.Totals.{can_overvote}
 use Rattle.close_rules.proofs.CompleteRows.{decided_row, possible_is}
-use Rattle.close_rules.proofs.Passed.{is_less, not_less, not_second}
+use Rattle.close_rules.proofs.Passed.{not_second}
 use Rattle.close_rules.proofs.RowVotes.{row_marks}
 
 -- a row without marks is that of a blank ballot
@@ -31,7 +32,7 @@ blank_same (mark ∷ row) = ap (λ (b : Bool). not (is_marked mark) && b) (blank
 pub blank_enough : (p : PartialDeck) → lacks_blank p ≡ false → p.rules.blank ≤ count_by is_blank (shown p)
 blank_enough p none =
     let count = count_alike may_be_blank (λ (row : List Mark). is_blank (map is_marked row)) p.marks (λ j d lt. blank_same (get_or p.marks j d)) in
-    omega (arith, not_less (count_by may_be_blank p.marks) p.rules.blank none, count, count_map (λ (row : List Mark). map is_marked row) is_blank p.marks)
+    omega (arith, ltb-false (count_by may_be_blank p.marks) p.rules.blank none, count, count_map (λ (row : List Mark). map is_marked row) is_blank p.marks)
 
 -- and enough are overvoted in a contest
 pub over_enough : (p : PartialDeck) (c : ℕ) → IsPartial p → IsComplete p → lacks_overvoted p c ≡ false → c < length p.contests → (contest_at p.contests c).limit < (contest_at p.contests c).targets
@@ -39,8 +40,8 @@ pub over_enough : (p : PartialDeck) (c : ℕ) → IsPartial p → IsComplete p �
 over_enough p c is complete none h can =
     let limit = (contest_at p.contests c).limit in
     let few = nat_lt (count_by (may_be_overvoted p.contests c) p.marks) p.rules.over in
-    let rest = not_second (nat_lt c (length p.contests)) (can_overvote (contest_at p.contests c) && few) none (is_less c (length p.contests) h) in
-    let enough = not_less (count_by (may_be_overvoted p.contests c) p.marks) p.rules.over (not_second (can_overvote (contest_at p.contests c)) few rest (is_less limit (contest_at p.contests c).targets can)) in
+    let rest = not_second (nat_lt c (length p.contests)) (can_overvote (contest_at p.contests c) && few) none (lt-ltb c (length p.contests) h) in
+    let enough = ltb-false (count_by (may_be_overvoted p.contests c) p.marks) p.rules.over (not_second (can_overvote (contest_at p.contests c)) few rest (lt-ltb limit (contest_at p.contests c).targets can)) in
     let count = count_alike (may_be_overvoted p.contests c) (λ (row : List Mark). is_overvoted p.contests (map is_marked row) c) p.marks
     (λ j d lt. ap (nat_lt limit) (possible_is p.contests (get_or p.marks j d) c (decided_row p j d is complete (omega (arith, lt, is.height))) ∙ sym (row_marks p.contests (get_or p.marks j d) c))) in
     omega (arith, enough, count, count_map (λ (row : List Mark). map is_marked row) (λ (ballot : List Bool). is_overvoted p.contests ballot c) p.marks)
@@ -74,5 +75,5 @@ in_order p j is complete none h less =
     let there : get_or (shown p) (j + 1) [] ≡ map is_marked (row_at p (j + 1)) = get_or-map (λ (r : List Mark). map is_marked r) p.marks (j + 1) [] [] (omega (arith, h, is.height)) in
     let smaller = less_smaller (row_at p j) (row_at p (j + 1)) (are_decided (row_at p j) (λ t lt. row.decided t (omega (arith, lt, row.long)))) (are_decided (row_at p (j + 1)) (λ t lt. next.decided t (omega (arith, lt, next.long)))) (row.long ∙ sym next.long)
     ((λ i. slice_cmp bool_cmp (sym here i) (sym there i)) ∙ less) in
-    let not_smaller = not_second (nat_lt (j + 1) p.ballots) (is_smaller (row_at p j) (row_at p (j + 1))) none (is_less (j + 1) p.ballots h) in
+    let not_smaller = not_second (nat_lt (j + 1) p.ballots) (is_smaller (row_at p j) (row_at p (j + 1))) none (lt-ltb (j + 1) p.ballots h) in
     let bad : true ≡ false = sym smaller ∙ not_smaller in cc

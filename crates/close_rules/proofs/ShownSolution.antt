@@ -4,13 +4,14 @@ use Rattle.std.specs.Prelude.{◌==◌}
 use Rattle.std.specs.Ordering.{nat_cmp, is_gt}
 use Rattle.std.specs.Cmp.Lexicographic.{slice_cmp}
 use Rattle.std.specs.declared.cmp.Ordering.TheVariants.{Greater}
+use Rattle.std.proofs.lemmas.Bool.{lt-ltb, eq-eqb}
 use Rattle.lat_base.specs.declared.contest.Contest.{Contest}
 use Rattle.lat_base.specs.Shape.{target_count, first_target, contest_at, contest_of}
 use Rattle.lat_base.specs.Tally.{own_total}
 use Rattle.lat_base.specs.Canonical.{IsCanonical, totals_in}
 use Rattle.lat_base.specs.Goodness.{IsRobust}
 use Rattle.lat_base.specs.Rules.{Obeys}
-use Rattle.readings.proofs.Places.{is_of, contest_is}
+use Rattle.readings.proofs.Places.{is_of, contest_is, nth_within}
 use Rattle.readings.proofs.Reports.{alike}
 use Rattle.deck_state.specs.PartialDeck.{PartialDeck}
 use Rattle.deck_state.specs.Shown.{IsComplete, shown}
@@ -22,11 +23,9 @@ use Rattle.close_rules.specs.declared.reason.Reason.TheVariants.{Order, Totals, 
 use Rattle.close_rules.specs.Fixed.{lows, is_fixed, has_shape_of, are_comparable}
 use Rattle.close_rules.specs.Refutes.{refutes, IsCheap}
 use Rattle.close_rules.specs.Solution.{IsSolution}
-use Rattle.close_rules.proofs.Along.{inside}
 use Rattle.close_rules.proofs.CompleteRows.{lo_is, hi_is}
 use Rattle.close_rules.proofs.FixedTotals.{totals_are}
-use Rattle.close_rules.proofs.Misassigned.{is_equal}
-use Rattle.close_rules.proofs.Passed.{is_less, each_number, not_second}
+use Rattle.close_rules.proofs.Passed.{each_number, not_second}
 use Rattle.close_rules.proofs.ShownRules.{blank_enough, over_enough, in_order}
 use Rattle.close_rules.proofs.Unrefuted.{AreFine, totals_fine, totals_rise}
 
@@ -80,8 +79,8 @@ high_known p t left h = let are = fine p t left h in omega (arith, hi_is p t lef
 fixed : (p : PartialDeck) (c : ℕ) → IsLeft p → c < length p.contests → is_fixed p c ≡ true
 fixed p c left h =
     each_number (λ t. lo p t == hi p t) (first_target p.contests c) (contest_at p.contests c).targets
-    (λ i lt. let t_in = inside p.contests c i h lt in
-    is_equal (lo p (first_target p.contests c + i)) (hi p (first_target p.contests c + i)) (low_known p (first_target p.contests c + i) left t_in ∙ sym (high_known p (first_target p.contests c + i) left t_in)))
+    (λ i lt. let t_in = nth_within p.contests c i h lt in
+    eq-eqb (lo p (first_target p.contests c + i)) (hi p (first_target p.contests c + i)) (low_known p (first_target p.contests c + i) left t_in ∙ sym (high_known p (first_target p.contests c + i) left t_in)))
 
 lows_known : (p : PartialDeck) (c : ℕ) → IsLeft p → c < length p.contests → totals_in p.contests (shown p) c ≡ lows p c
 lows_known p c left h =
@@ -89,13 +88,13 @@ lows_known p c left h =
     ∙ alike (own_total p.contests (shown p)) (lo p) (first_target p.contests c) (contest_at p.contests c).targets
     (λ t from to.
     let place : first_target p.contests c + (t - first_target p.contests c) ≡ t = omega (arith, from) in
-    sym (low_known p t left (omega (arith, place, inside p.contests c (t - first_target p.contests c) h (omega (arith, from, to))))))
+    sym (low_known p t left (omega (arith, place, nth_within p.contests c (t - first_target p.contests c) h (omega (arith, from, to))))))
 
 all_true : (a b c d e : Bool) → a ≡ true → b ≡ true → c ≡ true → d ≡ true → e ≡ true → (a && (b && (c && (d && e)))) ≡ true
 all_true a b c d e h i j k l = λ x. h x && (i x && (j x && (k x && l x)))
 
 shape_passes : (c d : Contest) → c ≡ d → has_shape_of c d ≡ true
-shape_passes c d e = λ i. is_equal c.limit d.limit (ap (λ (x : Contest). x.limit) e) i && is_equal c.targets d.targets (ap (λ (x : Contest). x.targets) e) i
+shape_passes c d e = λ i. eq-eqb c.limit d.limit (ap (λ (x : Contest). x.limit) e) i && eq-eqb c.targets d.targets (ap (λ (x : Contest). x.targets) e) i
 
 -- the deck is canonical
 shown_canonical : (p : PartialDeck) → IsLeft p → IsCanonical p.contests (shown p)
@@ -105,7 +104,7 @@ shown_canonical p left = record {
   earlier = λ c d lt h shape greater.
       let c_in : c < length p.contests = omega (arith, lt, h) in
       let comparable = all_true (nat_lt c d) (nat_lt d (length p.contests)) (has_shape_of (contest_at p.contests c) (contest_at p.contests d)) (is_fixed p c) (is_fixed p d)
-      (is_less c d lt) (is_less d (length p.contests) h) (shape_passes (contest_at p.contests c) (contest_at p.contests d) shape) (fixed p c left c_in) (fixed p d left h) in
+      (lt-ltb c d lt) (lt-ltb d (length p.contests) h) (shape_passes (contest_at p.contests c) (contest_at p.contests d) shape) (fixed p c left c_in) (fixed p d left h) in
       let first = lows_known p c left c_in in
       let second = lows_known p d left h in
       let compared : slice_cmp nat_cmp (lows p c) (lows p d) ≡ Greater = (λ i. slice_cmp nat_cmp (sym first i) (sym second i)) ∙ greater in

@@ -2,10 +2,11 @@
 use Rattle.std.proofs.Common.{◌≡◌, ◌+◌, ◌-◌, ◌<◌, ◌&&◌, ℕ, Bool, true, false, not, nat_lt, List, length, get_or, count_by, refl, ap, sym, subst, ◌∙◌, arith}
 use Rattle.std.specs.List.{list_all, range_with_len}
 use Rattle.std.proofs.lemmas.List.FromFn.{get_or-range_with_len, length-range_with_len}
+use Rattle.std.proofs.lemmas.Bool.{and_parts, eqb-true}
 use Rattle.lat_base.specs.declared.contest.Contest.{Contest}
 use Rattle.lat_base.specs.Shape.{target_count, first_target, contest_at, contest_of}
 use Rattle.lat_base.specs.Misassignment.{IsMisassignment, source}
-use Rattle.lat_base.specs.Tally.{reading, mark_count, votes_for, total, own_total}
+use Rattle.lat_base.specs.Tally.{mark_count, votes_for}
 use Rattle.lat_base.specs.Tally as tally
 use Rattle.readings.specs.Structural.{targets_of}
 use Rattle.readings.proofs.Places.{is_of, contest_is, nth_is_of, first_next, first_le}
@@ -14,7 +15,7 @@ use Rattle.readings.proofs.Marks.{marks_are}
 use Rattle.deck_state.specs.PartialDeck.{PartialDeck}
 use Rattle.close_rules.specs.Evading.{stays, keeps_totals, is_left, keeps_contest, is_misassignment, evades}
 use Rattle.close_rules.proofs.Misassigned.{passed_is}
-use Rattle.close_rules.proofs.Passed.{both, equal, at_number, second}
+use Rattle.close_rules.proofs.Passed.{at_number, second}
 
 -- a vote rests on the marks of one contest
 pub votes_alike : (contests : List Contest) (a b : List Bool) (u : ℕ) → u < target_count contests → length a ≡ target_count contests → length b ≡ target_count contests
@@ -52,11 +53,11 @@ pub touches : (p : PartialDeck) (s : List ℕ) → evades p s ≡ true → Touch
 touches p s h =
     let n = target_count p.contests in
     let rest = not (list_all (stays s) (range_with_len 0 n)) && list_all (keeps_contest p s) (range_with_len 0 (length p.contests)) in
-    let one = both (is_misassignment n s) rest h in
-    let two = both (not (list_all (stays s) (range_with_len 0 n))) (list_all (keeps_contest p s) (range_with_len 0 (length p.contests))) one.1 in
+    let one = and_parts (is_misassignment n s) rest h in
+    let two = and_parts (not (list_all (stays s) (range_with_len 0 n))) (list_all (keeps_contest p s) (range_with_len 0 (length p.contests))) one.1 in
     record {
       is = passed_is n s one.0;
-      left = λ u lt left. equal (source s u) u (at_target p.contests (stays s) u lt left);
+      left = λ u lt left. eqb-true (source s u) u (at_target p.contests (stays s) u lt left);
       kept = λ u lt left.
           let c = contest_of p.contests u in
           let here : 0 + c ≡ c = omega arith in

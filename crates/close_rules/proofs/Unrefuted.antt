@@ -1,6 +1,7 @@
 -- A complete partial deck for which no reason holds shows a good canonical deck: totals.
 use Rattle.std.proofs.Common.{◌≡◌, ◌+◌, ◌-◌, ◌<◌, ◌≤◌, ◌||◌, ℕ, zero, suc, Bool, true, false, nat_lt, max, length, map, refl, sym, subst, arith}
 use Rattle.std.specs.List.{range_with_len}
+use Rattle.std.proofs.lemmas.Bool.{lt-ltb, ltb-false}
 use Rattle.lat_base.specs.Shape.{target_count, first_target, contest_at, contest_of}
 use Rattle.lat_base.specs.Tally.{own_total}
 use Rattle.readings.proofs.Places.{is_of, first_next}
@@ -10,7 +11,7 @@ use Rattle.deck_state.specs.Trail.{IsPartial}
 use Rattle.deck_state.specs.Votes.{lo, hi}
 use Rattle.close_rules.specs.Totals.{is_above, least_rising, least_totals, highs, most_voting, has_no_totals}
 use Rattle.close_rules.proofs.CompleteRows.{lo_is, hi_is}
-use Rattle.close_rules.proofs.Passed.{is_less, not_less, not_second}
+use Rattle.close_rules.proofs.Passed.{not_second}
 
 -- n totals from target t on can rise from a number on, between the least and the greatest ones
 pub record CanRise (low high : ℕ → ℕ) (from t n : ℕ) : Type 0 where
@@ -29,7 +30,7 @@ can_rise low high most from t (suc n) h =
     let x = max from (low t) in
     let rest = is_above most (least_rising (x + 1) (map low (range_with_len (t + 1) n))) (map high (range_with_len (t + 1) n)) in
     let parts = neither (nat_lt (high t) x) (nat_lt most x) rest h in
-    let fits : x ≤ high t = not_less (high t) x parts.0 in
+    let fits : x ≤ high t = ltb-false (high t) x parts.0 in
     let more = can_rise low high most (x + 1) (t + 1) n parts.1 in
     record {
       between = λ i lt. between i lt fits more;
@@ -69,7 +70,7 @@ pub record AreFine (p : PartialDeck) (t : ℕ) : Type 0 where
 contest_rises : (p : PartialDeck) (c : ℕ) → c < length p.contests → has_no_totals p c ≡ false → CanRise (lo p) (hi p) p.rules.least (first_target p.contests c) (contest_at p.contests c).targets
 contest_rises p c h none =
     can_rise (lo p) (hi p) (most_voting p c) p.rules.least (first_target p.contests c) (contest_at p.contests c).targets
-    (not_second (nat_lt c (length p.contests)) (is_above (most_voting p c) (least_totals p c) (highs p c)) none (is_less c (length p.contests) h))
+    (not_second (nat_lt c (length p.contests)) (is_above (most_voting p c) (least_totals p c) (highs p c)) none (lt-ltb c (length p.contests) h))
 
 pub totals_fine : (p : PartialDeck) (t : ℕ) → IsPartial p → IsComplete p → ((c : ℕ) → has_no_totals p c ≡ false) → t < target_count p.contests → AreFine p t
 totals_fine p t is complete none h =

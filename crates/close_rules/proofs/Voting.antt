@@ -3,6 +3,7 @@ use Rattle.std.proofs.Common.{◌≡◌, ◌+◌, ◌-◌, ◌<◌, ◌≤◌, �
 use Rattle.std.specs.Prelude.{slice_range}
 use Rattle.std.proofs.lemmas.List.Elements.{All-head, All-tail}
 use Rattle.std.proofs.lemmas.List.Sums.{AllPass-from_list_all, sum_by-cons}
+use Rattle.std.proofs.lemmas.Bool.{and_parts, not-true, ltb-true, le-ltb}
 use Rattle.lat_base.specs.declared.contest.Contest.{Contest}
 use Rattle.lat_base.specs.Shape.{target_count, first_target, contest_at, contest_of}
 use Rattle.lat_base.specs.Tally.{is_marked, mark_count, is_overvoted, votes_for}
@@ -12,7 +13,6 @@ use Rattle.deck_state.specs.PartialDeck.{PartialDeck}
 use Rattle.deck_state.proofs.Compared.{slice_long, slice_at}
 use Rattle.close_rules.specs.Totals.{can_overvote, most_voting}
 use Rattle.close_rules.specs.Solution.{IsSolution}
-use Rattle.close_rules.proofs.Passed.{both, not_true, less, is_not_less}
 
 -- whether a ballot is neither blank nor overvoted in contest c
 abbrev pub is_voting : List Contest → ℕ → List Bool → Bool
@@ -33,11 +33,11 @@ blank_marks contests ballot c long h =
     let wide : length (slice_range ballot first last) ≡ last - first = slice_long ballot first last (omega (arith, long, first_le contests (c + 1))) in
     none_counted (slice_range ballot first last) (λ i d lt.
     let i_in : i < last - first = omega (arith, lt, wide) in
-    slice_at ballot first last i d i_in ∙ not_true (get_or ballot (first + i) d) (all (first + i) d (omega (arith, i_in, long, first_le contests (c + 1)))))
+    slice_at ballot first last i d i_in ∙ not-true (get_or ballot (first + i) d) (all (first + i) d (omega (arith, i_in, long, first_le contests (c + 1)))))
 
 -- so it is not overvoted in it
 blank_not_over : (contests : List Contest) (ballot : List Bool) (c : ℕ) → length ballot ≡ target_count contests → is_blank ballot ≡ true → is_overvoted contests ballot c ≡ false
-blank_not_over contests ballot c long h = is_not_less (contest_at contests c).limit (mark_count contests ballot c) (omega (arith, blank_marks contests ballot c long h))
+blank_not_over contests ballot c long h = le-ltb (contest_at contests c).limit (mark_count contests ballot c) (omega (arith, blank_marks contests ballot c long h))
 
 -- a ballot is one of the three at most
 one_kind : (blank over : Bool) → (blank ≡ true → over ≡ false) → cond {A = ℕ} blank 1 0 + (cond over 1 0 + cond (not blank && not over) 1 0) ≤ 1
@@ -70,18 +70,18 @@ few_voting p deck c solution h = by_kind (can_overvote (contest_at p.contests c)
         omega (arith, three, solution.completion.size)
 
     by_kind : (can : Bool) → can_overvote (contest_at p.contests c) ≡ can → count_by (is_voting p.contests c) deck ≤ cond can (p.ballots - p.rules.blank - p.rules.over) (p.ballots - p.rules.blank)
-    by_kind true can = omega (arith, kinds, solution.good.obeys.blank, solution.good.obeys.over c h (less (contest_at p.contests c).limit (contest_at p.contests c).targets can))
+    by_kind true can = omega (arith, kinds, solution.good.obeys.blank, solution.good.obeys.over c h (ltb-true (contest_at p.contests c).limit (contest_at p.contests c).targets can))
     by_kind false can = omega (arith, kinds, solution.good.obeys.blank)
 
 -- a ballot that votes for a target votes in its contest
 pub vote_is_voting : (contests : List Contest) (ballot : List Bool) (t : ℕ) → t < target_count contests → length ballot ≡ target_count contests → votes_for contests ballot t ≡ true → is_voting contests (contest_of contests t) ballot ≡ true
 vote_is_voting contests ballot t h long votes =
     let over = is_overvoted contests ballot (contest_of contests t) in
-    let parts = both (is_marked ballot t) (not over) votes in
+    let parts = and_parts (is_marked ballot t) (not over) votes in
     by_blank (is_blank ballot) refl parts.0 parts.1
   where
     by_blank : (blank : Bool) → is_blank ballot ≡ blank → is_marked ballot t ≡ true → not (is_overvoted contests ballot (contest_of contests t)) ≡ true → (not blank && not (is_overvoted contests ballot (contest_of contests t))) ≡ true
     by_blank false e marked fine = fine
     by_blank true e marked fine =
-        let none : get_or ballot t false ≡ false = not_true (get_or ballot t false) (AllPass-from_list_all not ballot e t false (omega (arith, h, long))) in
+        let none : get_or ballot t false ≡ false = not-true (get_or ballot t false) (AllPass-from_list_all not ballot e t false (omega (arith, h, long))) in
         let bad : true ≡ false = sym marked ∙ none in cc

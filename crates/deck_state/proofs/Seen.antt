@@ -27,7 +27,8 @@ pub seen_width : (p q : PartialDeck) (rows : List (Vec Mark Global)) (i : ℕ) (
 seen_width p q rows i row slice are seen same =
     subst (λ (x : PartialDeck). length slice ≡ target_count x.contests) (sym are.shown) (ap length same ∙ row_width p q rows i row are seen.ballot seen.at)
 
-byte_is : (b : Bool) → bool_byte b ≡ cond b 1 0
+-- a truth value as a number
+pub byte_is : (b : Bool) → bool_byte b ≡ cond b 1 0
 byte_is true = refl
 byte_is false = refl
 
@@ -39,7 +40,7 @@ row_counted p q rows i row slice test passes before one are seen same tested b a
     let here : ◌≡◌ {A = ℕ} (cond passes 1 0) (cond (test (get_or p.marks i [])) 1 0) = ap (λ (x : Bool). cond x 1 0) (tested ∙ ap test (same ∙ row_is p q rows i row are seen.ballot seen.at)) in
     omega (arith, more, here, added, byte_is passes, b)
 
-at_most_one : (b : Bool) → bool_byte b ≤ 1
+pub at_most_one : (b : Bool) → bool_byte b ≤ 1
 at_most_one true = omega arith
 at_most_one false = omega arith
 

@@ -3,12 +3,13 @@ use Rattle.std.proofs.Common.{◌≡◌, ◌<◌, ◌≤◌, ◌+◌, ◌-◌, �
 use Rattle.std.specs.List.{position_from}
 use Rattle.std.specs.Str.{bytes_eq}
 use Rattle.std.specs.Option.{option_or}
-use Rattle.std.proofs.lemmas.List.{drop_more, drop_all, length-map, get_or-map}
+use Rattle.std.proofs.lemmas.List.{drop_more, drop_all, get_or-map}
 use Rattle.lat_base.specs.declared.contest_names.ContestNames.{ContestNames}
 use Rattle.lat_base.specs.declared.contest.Contest.{Contest}
 use Rattle.lat_base.specs.Names.{NamesFit, names_at, no_names}
 use Rattle.lat_base.specs.Shape.{first_target, no_contest}
 use Rattle.std.proofs.lemmas.List.Sums.{sum_by_more}
+use Rattle.deck_text.proofs.ContestLines.{names_long}
 use Rattle.deck_text.specs.TargetNames.{FullName, is_called, names_in, target_names, no_name}
 
 none_of : (contest target id : List ℕ) (k : ℕ) (ids : List (List ℕ)) → bytes_eq id contest ≡ false
@@ -20,9 +21,6 @@ none_of contest target id k (i ∷ ids) e = rw e (none_of contest target id (k +
 pub none_called : (contest target : List ℕ) (n : ContestNames) (k : ℕ) → bytes_eq n.id contest ≡ false
     → position_from (is_called contest target) k (names_in n) ≡ None
 none_called contest target n k e = none_of contest target n.id k n.targets e
-
-names_long : (n : ContestNames) → length (names_in n) ≡ length n.targets
-names_long n = length-map n.targets (λ (id : List ℕ). record { contest = n.id; target = id })
 
 at_place : (test : FullName → Bool) (k i : ℕ) (names : List FullName) → i < length names
     → position_from test k (drop i names) ≡ cond (test (get_or names i no_name)) (Some k) (position_from test (k + 1) (drop (i + 1) names))

@@ -12,7 +12,7 @@ use Rattle.deck_text.specs.TargetNames.{names_in, target_names, name_at, no_name
 use Rattle.deck_text.specs.DeckText.{mark_line}
 
 -- a contest gives as many names as it has targets
-names_long : (n : ContestNames) → length (names_in n) ≡ length n.targets
+pub names_long : (n : ContestNames) → length (names_in n) ≡ length n.targets
 names_long n = length-map n.targets (λ (id : List ℕ). record { contest = n.id; target = id })
 
 -- as many names stand before the next contest as before this one, and its own

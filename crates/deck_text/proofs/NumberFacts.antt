@@ -13,7 +13,8 @@ use Rattle.deck_text.specs.Numerals.{is_numeral, number_in}
 digits_test : IsDigitsTest (λ ds. list_all is_ascii_digit ds ≡ true)
 digits_test = search rules
 
-digits : IsNumeralModel (λ ds. list_all is_ascii_digit ds ≡ true) (digits_value 10)
+-- digits are numerals
+pub digits : IsNumeralModel (λ ds. list_all is_ascii_digit ds ≡ true) (digits_value 10)
 digits = numerals_by_value _ digits_test
 
 all_digits : (field : List ℕ) → is_numeral field ≡ true → list_all is_ascii_digit field ≡ true

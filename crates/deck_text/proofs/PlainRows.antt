@@ -1,16 +1,12 @@
 -- A row whose fields have only the bytes of ids is written as it stands.
-use Rattle.std.proofs.Common.{◌≡◌, ◌||◌, ℕ, Bool, true, false, List, [], ◌∷◌, refl, arith, append_assoc}
+use Rattle.std.proofs.Common.{◌≡◌, ℕ, true, false, List, [], ◌∷◌, refl, arith, append_assoc}
 use Rattle.std.specs.List.{list_all, list_any}
-use Rattle.std.proofs.lemmas.Bool.{and_parts}
+use Rattle.std.proofs.lemmas.Bool.{and_parts, or_from}
 use Rattle.std.proofs.lemmas.Bool.Decides.{nat_tests}
 use Rattle.std.proofs.lemmas.List.{append-nil}
 use Rattle.csv.specs.Writing.{default_writer, needs_byte, field_text, row_text, fields_text, is_blank}
 use Rattle.lat_base.specs.Id.{is_id_byte}
 use Rattle.deck_text.specs.Line.{line}
-
-no_or : (a b : Bool) → a ≡ false → b ≡ false → (a || b) ≡ false
-no_or true b h k = cc
-no_or false b h k = k
 
 plain_byte : (b : ℕ) → is_id_byte b ≡ true → needs_byte default_writer b ≡ false
 plain_byte b h = grind (arith, nat_tests)
@@ -19,7 +15,7 @@ plain : (field : List ℕ) → list_all is_id_byte field ≡ true → list_any (
 plain [] h = refl
 plain (b ∷ field) h =
     let parts = and_parts (is_id_byte b) (list_all is_id_byte field) h in
-    no_or (needs_byte default_writer b) (list_any (needs_byte default_writer) field) (plain_byte b parts.0) (plain field parts.1)
+    or_from (needs_byte default_writer b) (list_any (needs_byte default_writer) field) (plain_byte b parts.0) (plain field parts.1)
 
 plain_text : (field : List ℕ) → list_all is_id_byte field ≡ true → field_text default_writer field ≡ field
 plain_text field h = rw (plain field h) refl

@@ -1,6 +1,6 @@
 -- Each row that is read is one row more of the deck, or of the totals.
 use Rattle.std.proofs.Common.{◌≡◌, ◌<◌, ◌≤◌, ◌+◌, ◌==◌, ◌||◌, ℕ, Bool, true, false, cond, max, List, [], ◌∷◌, Option, Some, None, is_some, length, get_or, set, replicate, count_by, refl, ap, inl, inr, ◌∙◌, arith}
-use Rattle.std.proofs.lemmas.Bool.{cases_Bool, eqb-true}
+use Rattle.std.proofs.lemmas.Bool.{cases_Bool, eqb-true, or_parts}
 use Rattle.std.proofs.lemmas.List.{get_or_push, length_push, length-replicate, get_or-replicate}
 use Rattle.std.proofs.lemmas.List.Folds.{sum_by-replicate}
 use Rattle.std.proofs.lemmas.List.Sums.{sum_by-append, sum_by-cons, sum_by-set, sum_by-le, count_by-le-length}
@@ -60,10 +60,6 @@ ballot_more deck (mark.Target t) h =
     let free : mark_at (with_blank deck) (last_ballot (with_blank deck)) t ≡ false = ap (λ (b : List Bool). get_or b t false) e ∙ get_or-replicate deck.targets t false false h in
     omega (arith, none, blank_more deck, last_more (with_blank deck) t (omega (arith, length_push deck.ballots (replicate deck.targets false))) low free)
 
-neither : (a b : Bool) → (a || b) ≡ false → (a ≡ false) × (b ≡ false)
-neither true b h = cc
-neither false b h = (refl, h)
-
 new_is : (blank there : Bool) (x new : Ballots) → ◌≡◌ {A = Option Ballots} (cond (blank || there) None (Some x)) (Some new) → ((blank || there) ≡ false) × (x ≡ new)
 new_is true there x new h = cc
 new_is false true x new h = cc
@@ -76,7 +72,7 @@ further_more deck mark.Blank new is some h e = cc
 further_more deck (mark.Target t) new is some h e =
     let last = ballot_at deck (last_ballot deck) in
     let (clear, same) = new_is (is_blank last) (mark_at deck (last_ballot deck) t) (with_last_mark deck t) new e in
-    let (marked, free) = neither (is_blank last) (mark_at deck (last_ballot deck) t) clear in
+    let (marked, free) = or_parts (is_blank last) (mark_at deck (last_ballot deck) t) clear in
     let long : length last ≡ deck.targets = is.fits (last_ballot deck) [] (omega arith) in
     omega (arith, some_mark last marked, last_more deck t some (omega (arith, long, h)) free, ap (λ (d : Ballots). deck_rows d.ballots) same)
 

@@ -4,6 +4,7 @@ use Rattle.std.specs.Prelude.{All}
 use Rattle.std.proofs.lemmas.List.Elements.{All-push, All-nil}
 use Rattle.serde_json.specs.Data.{Data}
 use Rattle.lat_base.specs.Names.{has_twice}
+use Rattle.lat_base.proofs.NamesFacts.{twice_more}
 use Rattle.election_json.specs.declared.place.Place.TheVariants as at
 use Rattle.election_json.specs.declared.contest_entry.ContestEntry.{ContestEntry}
 use Rattle.election_json.specs.Fault.{◌>>=◌}
@@ -11,7 +12,6 @@ use Rattle.election_json.specs.Member.{member, object, number, array, new_id}
 use Rattle.election_json.specs.Entry.{each}
 use Rattle.election_json.specs.Contests.{ids_of, target_entry, contest_entry, next_contest}
 use Rattle.election_json.specs.Limits.{IsContest, AreContests}
-use Rattle.election_json.proofs.Ids.{twice_more}
 use Rattle.election_json.proofs.Steps.{bind_ok, ok_is, number_range, array_range, new_id_fresh, each_keeps}
 
 targets_once : (i : ℕ) (values : List Data) (ids : List (List ℕ)) → each (target_entry i) values ≡ Ok ids → (has_twice ids ≡ false) × (length ids ≡ length values)

@@ -1,6 +1,5 @@
 pub mod Lists
 pub mod RuleFacts
-pub mod Ids
 pub mod Chosen
 pub mod Steps
 pub mod ContestLimits

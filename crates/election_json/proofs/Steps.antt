@@ -3,7 +3,7 @@ use Rattle.std.proofs.Common.{◌≡◌, ◌+◌, ◌<◌, ◌≤◌, ◌++◌, 
 use Rattle.std.specs.List.{list_any}
 use Rattle.std.specs.Prelude.{option_and_then}
 use Rattle.std.specs.Str.{bytes_eq}
-use Rattle.std.proofs.lemmas.Bool.{ltb-false}
+use Rattle.std.proofs.lemmas.Bool.{ltb-false, or_parts}
 use Rattle.std.proofs.lemmas.List.{drop_all}
 use Rattle.serde_json.specs.Data.{Data}
 use Rattle.serde_json.specs.Find.{as_number, as_u64}
@@ -13,7 +13,6 @@ use Rattle.election_json.specs.declared.fault.DefFault.TheVariants.{Repeated, Ou
 use Rattle.election_json.specs.Fault.{◌>>=◌, or_fault}
 use Rattle.election_json.specs.Member.{is_outside, number, values, array, id_text, new_id}
 use Rattle.election_json.specs.Entry.{each_from}
-use Rattle.election_json.proofs.Ids.{none_of}
 
 -- the value of a step that did not fail
 pub bind_ok : {A B : Type 0} (r : Result A DefFault) (f : A → Result B DefFault) (y : B) → (r >>= f) ≡ Ok y → (x : A) × (r ≡ Ok x) × (f x ≡ Ok y)
@@ -32,7 +31,7 @@ pub ok_is : {A : Type 0} (x y : A) → done x ≡ done y → x ≡ y
 ok_is x y e = cc
 
 pub inside : (low high n : ℕ) → is_outside low high n ≡ false → (low ≤ n) × (n ≤ high)
-inside low high n h = let parts = none_of (nat_lt n low) (nat_lt high n) h in (ltb-false _ _ parts.0, ltb-false _ _ parts.1)
+inside low high n h = let parts = or_parts (nat_lt n low) (nat_lt high n) h in (ltb-false _ _ parts.0, ltb-false _ _ parts.1)
 
 pub number_range : (low high : ℕ) (place : Place) (value : Data) (n : ℕ) → number low high place value ≡ Ok n → (low ≤ n) × (n ≤ high)
 number_range low high place value n e =

@@ -3,7 +3,7 @@ use Rattle.std.proofs.Common.{◌≡◌, ◌<◌, ◌≤◌, ◌++◌, ◌∷◌
 use Rattle.std.specs.Prelude.{All}
 use Rattle.std.specs.List.{list_any, AllByRecursion}
 use Rattle.std.specs.Str.{bytes_eq}
-use Rattle.std.proofs.lemmas.Bool.{ltb-false}
+use Rattle.std.proofs.lemmas.Bool.{ltb-false, or_from}
 use Rattle.std.proofs.lemmas.List.{length-map, get_or-map, map_push}
 use Rattle.std.proofs.lemmas.List.Elements.{All-push, All-nil, All-map, recursion_from_All}
 use Rattle.std.proofs.lemmas.Slice.Eq.{bytes_eq-Decides}
@@ -13,7 +13,7 @@ use Rattle.lat_base.specs.declared.contest_names.ContestNames.{ContestNames}
 use Rattle.lat_base.specs.Names.{AreNames, NamesFit, has_twice, no_names}
 use Rattle.lat_base.specs.Rules.{RuleSet, IsRuleSet}
 use Rattle.lat_base.specs.Shape.{target_count, no_contest}
-use Rattle.lat_base.proofs.NamesFacts.{names_more}
+use Rattle.lat_base.proofs.NamesFacts.{names_more, twice_more}
 use Rattle.election_json.specs.declared.place.Place.{Place}
 use Rattle.election_json.specs.declared.place.Place.TheVariants as at
 use Rattle.election_json.specs.declared.fault.DefFault.{DefFault}
@@ -27,7 +27,6 @@ use Rattle.election_json.specs.Styles.{DefinedStyle, contest_names, contest_shap
 use Rattle.election_json.specs.Limits.{IsContest, AreContests, IsStyle}
 use Rattle.election_json.specs.Definition.{IsDefinition}
 use Rattle.election_json.specs.Kept.{no_entry}
-use Rattle.election_json.proofs.Ids.{no_or, twice_more}
 use Rattle.election_json.proofs.Lists.{any_map}
 use Rattle.election_json.proofs.Steps.{bind_ok, guard_ok, array_range, new_id_fresh, each_keeps}
 
@@ -63,7 +62,7 @@ chosen_limits contests i j earlier value c are e =
 names_push : (earlier : List ContestEntry) (c : ContestEntry) → AreNames (map contest_names earlier) → list_any (bytes_eq c.id) (ids_of earlier) ≡ false → has_twice c.targets ≡ false → AreNames (map contest_names (earlier ++ c ∷ []))
 names_push earlier c named fresh once =
     let other = any_map (λ (n : ContestNames). bytes_eq c.id n.id) contest_names earlier ∙ sym (any_map (bytes_eq c.id) (λ (x : ContestEntry). x.id) earlier) ∙ fresh in
-    subst AreNames (sym (map_push contest_names earlier c)) (names_more (map contest_names earlier) (contest_names c) named (no_or _ (has_twice c.targets) other once))
+    subst AreNames (sym (map_push contest_names earlier c)) (names_more (map contest_names earlier) (contest_names c) named (or_from _ (has_twice c.targets) other once))
 
 pub record AreChosen (chosen : List ContestEntry) : Type 0 where
   pub all : All IsContest chosen

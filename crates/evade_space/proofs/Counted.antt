@@ -6,6 +6,7 @@ use Rattle.lat_base.specs.Shape.{contest_of, contest_at}
 use Rattle.lat_base.specs.Tally.{is_marked}
 use Rattle.std.specs.Prelude.{◌&&◌, ◌||◌, nat_lt, nat_le}
 use Rattle.std.proofs.lemmas.Bool.Decides.{nat_tests}
+use Rattle.std.proofs.lemmas.Bool.{and_right, or_left, lt-ltb, le-ltb, le-leb, lt-leb}
 use Rattle.evade_space.specs.Sources.{source_at, empty_places}
 use Rattle.evade_space.specs.Seen.{is_seen, seen, taken, free_marks}
 use Rattle.evade_space.specs.Sought.{Sought}
@@ -50,16 +51,6 @@ must_is contests sources u t ballot marks more lt e known rest =
     let limit = (contest_at contests (contest_of contests u)).limit in
     (λ i. mark_of sources u t ballot lt e i && nat_le (sym known i + sym rest i) limit)
 
-and_second : (a b : Bool) → b ≡ false → (a && b) ≡ false
-and_second true b h = h
-and_second false b h = refl
-
-within_test : (l m : ℕ) → m ≤ l → nat_le m l ≡ true
-within_test l m h = grind (arith, nat_tests)
-
-over_test : (l m : ℕ) → l < m → nat_le m l ≡ false
-over_test l m h = grind (arith, nat_tests)
-
 -- one ballot more, counted or not
 pub counted : (before after : ℕ) (yes : Bool) (count more : ℕ) → count ≡ before → after ≡ before + cond yes 1 0 → more ≡ cond yes (count + 1) count → more ≡ after
 counted before after true count more e k h = omega (arith, e, k, h)
@@ -67,10 +58,10 @@ counted before after false count more e k h = omega (arith, e, k, h)
 
 -- a mark, and no more marks than the limit
 pub marked_within : (mark : Bool) (marks limit : ℕ) → mark ≡ true → marks ≤ limit → (mark && nat_le marks limit) ≡ true
-marked_within mark marks limit h le = ap (λ (b : Bool). b && nat_le marks limit) h ∙ within_test limit marks le
+marked_within mark marks limit h le = ap (λ (b : Bool). b && nat_le marks limit) h ∙ le-leb marks limit le
 
 pub marked_over : (mark : Bool) (marks limit : ℕ) → limit < marks → (mark && nat_le marks limit) ≡ false
-marked_over mark marks limit lt = and_second mark (nat_le marks limit) (over_test limit marks lt)
+marked_over mark marks limit lt = and_right mark (nat_le marks limit) (lt-leb marks limit lt)
 
 pub unmarked : (mark : Bool) (marks limit : ℕ) → mark ≡ false → (mark && nat_le marks limit) ≡ false
 unmarked mark marks limit h = ap (λ (b : Bool). b && nat_le marks limit) h
@@ -81,30 +72,20 @@ missed_is : (sought : Sought) (sources : List (Option ℕ)) (u t : ℕ) → sour
 missed_is sought sources u t e =
     ap (λ (o : Option ℕ). is_some o && (nat_lt (may_vote sought.contests sought.deck sources u) (get_or sought.wanted u 0) || nat_lt (get_or sought.wanted u 0) (must_vote sought.contests sought.deck sources u))) e
 
-or_first : (a b : Bool) → a ≡ true → (a || b) ≡ true
-or_first true b h = refl
-or_first false b h = cc
-
 or_second : (a b : Bool) → a ≡ false → (a || b) ≡ b
 or_second false b h = refl
 or_second true b h = cc
 
-less_test : (a b : ℕ) → a < b → nat_lt a b ≡ true
-less_test a b h = grind (arith, nat_tests)
-
-not_test : (a b : ℕ) → b ≤ a → nat_lt a b ≡ false
-not_test a b h = grind (arith, nat_tests)
-
 -- too few may vote
 pub few_missed : (sought : Sought) (sources : List (Option ℕ)) (u t : ℕ) → source_at sources u ≡ Some t → may_vote sought.contests sought.deck sources u < get_or sought.wanted u 0 → is_missed sought sources u ≡ true
-few_missed sought sources u t e lt = missed_is sought sources u t e ∙ or_first _ _ (less_test _ _ lt)
+few_missed sought sources u t e lt = missed_is sought sources u t e ∙ or_left _ _ (lt-ltb _ _ lt)
 
 -- enough may vote, so it is a question of those that surely do
 pub many_missed : (sought : Sought) (sources : List (Option ℕ)) (u t : ℕ) → source_at sources u ≡ Some t → get_or sought.wanted u 0 ≤ may_vote sought.contests sought.deck sources u
     → is_missed sought sources u ≡ nat_lt (get_or sought.wanted u 0) (must_vote sought.contests sought.deck sources u)
-many_missed sought sources u t e le = missed_is sought sources u t e ∙ or_second _ _ (not_test _ _ le)
+many_missed sought sources u t e le = missed_is sought sources u t e ∙ or_second _ _ (le-ltb _ _ le)
 
 -- just the wanted number may vote, so no more surely do
 pub none_missed : (sought : Sought) (sources : List (Option ℕ)) (u t : ℕ) → source_at sources u ≡ Some t → get_or sought.wanted u 0 ≡ may_vote sought.contests sought.deck sources u → is_missed sought sources u ≡ false
 none_missed sought sources u t e same =
-    many_missed sought sources u t e (omega (arith, same)) ∙ not_test _ _ (omega (arith, same, must_may sought.contests sought.deck sources u))
+    many_missed sought sources u t e (omega (arith, same)) ∙ le-ltb _ _ (omega (arith, same, must_may sought.contests sought.deck sources u))

@@ -5,7 +5,7 @@ use Rattle.std.specs.List.{list_any, range_with_len}
 use Rattle.std.proofs.lemmas.List.FromFn.{get_or-range_with_len, length-range_with_len}
 use Rattle.std.proofs.lemmas.List.{get_or-replicate}
 use Rattle.std.proofs.lemmas.List.Folds.{list_any_none}
-use Rattle.std.proofs.lemmas.Bool.{cases_eq}
+use Rattle.std.proofs.lemmas.Bool.{cases_eq, or_left}
 use Rattle.lat_base.specs.Shape.{target_count, contest_of}
 use Rattle.readings.proofs.Places.{is_of}
 use Rattle.evade_space.specs.Sources.{source_at, empty_places, AreGiven}
@@ -48,14 +48,10 @@ none_dead sought sources u are lu tried own others = list_any_none (is_missed so
         let at : get_or (range_with_len 0 (length sources)) k d ≡ k = omega (arith, get_or-range_with_len 0 (length sources) k d inside) in
         subst (λ (w : ℕ). is_missed sought sources w ≡ false) (sym at) (none_missed sought sources u k are lu (omega (arith, inside, are.long)) tried own others)
 
-or_first : (a b : Bool) → a ≡ true → (a || b) ≡ true
-or_first true b h = refl
-or_first false b h = cc
-
 -- what is left to see once the marks that are lost are not too many
 pub dead_is : (sought : Sought) (sources : List (Option ℕ)) (missed : Bool) → (missed ≡ true → list_any (is_missed sought sources) (range_with_len 0 (length sources)) ≡ true)
     → (missed ≡ false → list_any (is_missed sought sources) (range_with_len 0 (length sources)) ≡ false) → is_overspent sought sources ≡ false → missed ≡ is_dead sought sources
-dead_is sought sources true some none over = sym (or_first _ (is_overspent sought sources) (some refl))
+dead_is sought sources true some none over = sym (or_left _ (is_overspent sought sources) (some refl))
 dead_is sought sources false some none over = sym (λ i. none refl i || over i)
 
 none_at : (p : ℕ → Bool) (n w : ℕ) → w < n → list_any p (range_with_len 0 n) ≡ false → p w ≡ false

@@ -5,6 +5,7 @@ use Rattle.std.specs.List.{range_with_len, filter}
 use Rattle.std.proofs.lemmas.List.{ext_get_or}
 use Rattle.std.proofs.lemmas.List.FromFn.{get_or-range_with_len, length-range_with_len}
 use Rattle.std.proofs.lemmas.List.Sums.{AllPass-from_list_all}
+use Rattle.std.proofs.lemmas.Bool.{not-true, and_parts}
 use Rattle.tree_core.specs.Steps.{IsKid}
 use Rattle.lat_base.specs.Shape.{target_count}
 use Rattle.readings.proofs.Within.{source_within}
@@ -19,7 +20,6 @@ use Rattle.evade_space.proofs.Known.{free_at, that_is, with_long, extends_less, 
 use Rattle.evade_space.proofs.Moved.{moved_is_partial}
 use Rattle.evade_space.proofs.Filtered.{passes_at, below_at, kid_at}
 use Rattle.evade_space.proofs.Fitting.{unused}
-use Rattle.evade_space.proofs.VoteBounds.{and_true}
 use Rattle.evade_space.proofs.LossBounds.{alive}
 
 -- an allowed label is an image without a source, and its kids are the sources that it can get
@@ -30,18 +30,14 @@ allowed sought s u n h = by_test (is_free s.sources u) refl h
     by_test true e k = (e, cc)
     by_test false e k = absurd (cc)
 
-not_true : (b : Bool) → not b ≡ true → b ≡ false
-not_true false h = refl
-not_true true h = cc
-
 -- a kid is unused, a target, and what comes of it isn't dead
 pub kid_can : (sought : Sought) (sources : List (Option ℕ)) (u k : ℕ) → k < length (kids_of sought sources u)
     → (is_used sources (get_or (kids_of sought sources u) k 0) ≡ false) × (is_dead sought (with_source sources u (get_or (kids_of sought sources u) k 0)) ≡ false)
     × (get_or (kids_of sought sources u) k 0 < length sources)
 kid_can sought sources u k lt =
     let passes = passes_at (can_get sought sources u) (length sources) k lt in
-    let parts = and_true (not (is_used sources (get_or (kids_of sought sources u) k 0))) (not (is_dead sought (with_source sources u (get_or (kids_of sought sources u) k 0)))) passes in
-    (not_true _ parts.0, not_true _ parts.1, below_at (can_get sought sources u) (length sources) k lt)
+    let parts = and_parts (not (is_used sources (get_or (kids_of sought sources u) k 0))) (not (is_dead sought (with_source sources u (get_or (kids_of sought sources u) k 0)))) passes in
+    (not-true _ parts.0, not-true _ parts.1, below_at (can_get sought sources u) (length sources) k lt)
 
 -- a kid of the space's own state is one of its own
 pub kid_is_own : (sought : Sought) (s : PartialMisassignment) (u k : ℕ) (kid : PartialMisassignment) → IsKid (evade_steps sought) (λ x. IsEvadeState sought x) s u k kid → IsEvadeState sought kid

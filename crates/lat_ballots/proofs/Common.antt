@@ -1,5 +1,5 @@
 -- Bits that two rows have in common.
-use Rattle.std.proofs.Common.{◌≡◌, ◌<◌, ◌≤◌, ◌+◌, ◌-◌, ◌*◌, ◌/◌, ◌%◌, ◌^◌, ◌&&◌, ℕ, zero, suc, Bool, true, false, List, length, get_or, take, map, cond, min, nat_eq, bit_and, count_by, count_ones, refl, ap, sym, subst, ◌∙◌, arith}
+use Rattle.std.proofs.Common.{◌≡◌, ◌<◌, ◌≤◌, ◌+◌, ◌-◌, ◌*◌, ◌/◌, ◌%◌, ◌^◌, ◌&&◌, ℕ, zero, suc, Bool, false, List, length, get_or, take, map, cond, min, nat_eq, bit_and, count_by, count_ones, refl, ap, sym, subst, ◌∙◌, arith}
 use Rattle.std.specs.List.{range_with_len}
 use Rattle.std.specs.Int.{bit_at}
 use Rattle.std.specs.Simd.Lanes.{mask_l}
@@ -9,6 +9,7 @@ use Rattle.std.proofs.lemmas.List.{get_or-take, length-take-le}
 use Rattle.std.proofs.lemmas.Nat.{and_le_l}
 use Rattle.std.proofs.lemmas.List.FromFn.{get_or-map-range_with_len, length-map-range_with_len, length-range_with_len}
 use Rattle.std.proofs.lemmas.List.Sums.{count_by-le-length}
+use Rattle.std.proofs.Math.Bool.{and-false}
 use Rattle.readings.proofs.Ranges.{count_more, count_same}
 use Rattle.readings.proofs.Counting.{none_pass}
 use Rattle.lat_ballots.specs.Row.{bits_of, is_common, common_count}
@@ -86,10 +87,6 @@ word_more words others i lt fits =
 pub word_last : (words others : List ℕ) (i : ℕ) → i ≡ 4 → common_below words others (64 * i) ≡ common_count (bits_of words) (bits_of others)
 word_last words others i e = let all : 64 * i ≡ length (bits_of words) = omega (arith, length-bits_of words) in ap (common_below words others) all
 
-nothing : (b : Bool) → (b && false) ≡ false
-nothing true = refl
-nothing false = refl
-
 -- where the other row has nothing past n, the common part is that of the first n places
 pub common_within : (row other : List Bool) (n : ℕ) → n ≤ length row → ((t : ℕ) → n ≤ t → get_or other t false ≡ false)
     → common_count row other ≡ common_count (take n row) other
@@ -97,7 +94,7 @@ common_within row other n le none =
     let both = is_common row other in
     let rest : ℕ = length row - n in
     let parts : n + rest ≡ length row = omega arith in
-    let no_more = count_same (λ k. both (n + k)) (λ k. false) rest (λ k lt. ap (λ (b : Bool). get_or row (n + k) false && b) (none (n + k) (omega arith)) ∙ nothing (get_or row (n + k) false)) in
+    let no_more = count_same (λ k. both (n + k)) (λ k. false) rest (λ k lt. ap (λ (b : Bool). get_or row (n + k) false && b) (none (n + k) (omega arith)) ∙ and-false (get_or row (n + k) false)) in
     let front = count_same both (is_common (take n row) other) n (λ k lt. ap (λ (b : Bool). b && get_or other k false) (sym (get_or-take n row k false lt))) in
     let long = ap (λ (k : ℕ). count_by (is_common (take n row) other) (range_with_len 0 k)) (length-take-le n row le) in
     omega (arith, ap (λ (k : ℕ). count_by both (range_with_len 0 k)) parts, range_parts both n rest, no_more, none_pass (range_with_len 0 rest), front, long)

@@ -82,3 +82,24 @@ fn ballots_are_put_in_order(rt: HostRuntime) -> Result<(), Fail> {
     }
     Ok(())
 }
+
+// One ballot that marks the first of three targets, read with the third target in the first place and
+// the first in the second.
+#[test]
+fn marks_go_with_their_sources(rt: HostRuntime) -> Result<(), Fail> {
+    let alloc = rt.alloc();
+    let contest = Contest {
+        limit: 1,
+        targets: 3,
+    };
+    let shape = Shape::new(alloc, &[contest])?;
+    let mut deck = Deck::blank(alloc, &shape, 1)?;
+    if deck.ballots() == 1 && deck.targets() == 3 {
+        deck.set(0, 0, true);
+        let read = deck.read(alloc, &[2, 0])?;
+        if read.ballots() == 1 && read.targets() == 2 {
+            assert_eq!(rt; read.marks(0, 0, 2), 2);
+        }
+    }
+    Ok(())
+}

@@ -23,7 +23,7 @@ some_target (c ∷ contests) is =
     omega (arith, sum_by-cons (λ (x : Contest). x.targets) c contests, first.0)
 
 -- where nothing is found, the test failed and nothing is found after it
-nothing : {A : Type 0} (b : Bool) (x : A) (y : Option A) → cond b (Some x) y ≡ None → (b ≡ false) × (y ≡ None)
+pub nothing : {A : Type 0} (b : Bool) (x : A) (y : Option A) → cond b (Some x) y ≡ None → (b ≡ false) × (y ≡ None)
 nothing true x y h = cc
 nothing false x y h = (refl, h)
 

@@ -4,12 +4,13 @@ use Rattle.std.specs.Prelude.{◌==◌}
 use Rattle.std.specs.List.{range_with_len}
 use Rattle.std.proofs.lemmas.List.{take-take}
 use Rattle.std.proofs.lemmas.List.FromFn.{length-map-range_with_len}
-use Rattle.std.proofs.lemmas.List.Sums.{sum_by-cons, sum_by_more, sum_by-take-le}
+use Rattle.std.proofs.lemmas.List.Sums.{sum_by-cons, sum_by-take-le}
 use Rattle.std.proofs.lemmas.Bool.{cases_lt, cases_order}
 use Rattle.std.proofs.lemmas.Bool.Decides.{nat_tests}
 use Rattle.lat_base.specs.declared.contest.Contest.{Contest}
-use Rattle.lat_base.specs.Shape.{target_count, first_target, contest_at, no_contest}
+use Rattle.lat_base.specs.Shape.{target_count, first_target, contest_at}
 use Rattle.lat_base.specs.Misassignment.{IsMisassignment}
+use Rattle.readings.proofs.Places.{first_next}
 use Rattle.lat_misassign.specs.Sources.{AreSources, exchanged, contests_exchanged}
 use Rattle.readings.proofs.Ranges.{one_in}
 
@@ -87,10 +88,6 @@ runs_twice a b n u apart (inr o) = rest_twice a b n u o (inside b (b + n) u)
 runs_below : (a b n all u : ℕ) → a + n ≤ all → b + n ≤ all → u < all → runs a (a + n) b (b + n) u < all
 runs_below a b n all u h k lt = grind (arith, nat_tests)
 
--- the contest after begins where the contest ends
-next_first : (contests : List Contest) (c : ℕ) → c < length contests → first_target contests (c + 1) ≡ first_target contests c + (contest_at contests c).targets
-next_first contests c lt = sum_by_more (λ (x : Contest). x.targets) contests c no_contest lt
-
 later_first : (contests : List Contest) (k : ℕ) (c : ℕ) → c ≤ k → first_target contests c ≤ first_target contests k
 later_first contests k c le =
     subst (λ (l : List Contest). target_count l ≤ first_target contests k) (take-take c k contests le) (sum_by-take-le (λ (x : Contest). x.targets) (take k contests) c)
@@ -120,6 +117,6 @@ pub exchanged_sources : (contests : List Contest) (c d : ℕ) → c < length con
     → 1 ≤ target_count contests → target_count contests ≤ 256 → AreSources (contests_exchanged contests c d)
 exchanged_sources contests c d h k e some few =
     let parts = exchanges (target_count contests) (first_target contests c) (first_target contests (c + 1)) (first_target contests d) (first_target contests (d + 1)) (contest_at contests c).targets
-    (next_first contests c h) (omega (arith, next_first contests d k, e)) (contests_apart contests c d)
+    (first_next contests c h) (omega (arith, first_next contests d k, e)) (contests_apart contests c d)
     (sum_by-take-le (λ (x : Contest). x.targets) contests (c + 1)) (sum_by-take-le (λ (x : Contest). x.targets) contests (d + 1)) in
     sources_of (exchanged contests c d) parts.0 (target_count contests) parts.1 some few

@@ -1,8 +1,9 @@
 -- The identity is a misassignment.
-use Rattle.std.proofs.Common.{◌≡◌, ◌≤◌, ◌<◌, ◌+◌, ℕ, List, length, get_or, ap, sym, subst, ◌∙◌, arith}
-use Rattle.std.proofs.lemmas.List.FromFn.{length-range_with_len, get_or-range_with_len}
+use Rattle.std.proofs.Common.{◌≡◌, ◌≤◌, ◌<◌, ℕ, List, length, get_or, ap, sym, subst, ◌∙◌, arith}
+use Rattle.std.proofs.lemmas.List.FromFn.{length-range_with_len}
 use Rattle.std.proofs.lemmas.List.{ext_get_or}
 use Rattle.lat_base.specs.Misassignment.{IsMisassignment, identity}
+use Rattle.readings.proofs.Made.{identity_at}
 use Rattle.lat_misassign.specs.Sources.{AreSources}
 use Rattle.readings.proofs.Ranges.{one_in}
 
@@ -17,14 +18,8 @@ identity_sources n some few =
     let e = length-range_with_len 0 n in
     record { some = omega (arith, e); few = omega (arith, e); is = subst (λ (m : ℕ). IsMisassignment m (identity n)) (sym e) (identity_is n) }
 
--- the identity, source by source
-pub identity_read : (n u : ℕ) → u < n → get_or (identity n) u 0 ≡ u
-identity_read n u lt =
-    let start : 0 + u ≡ u = omega arith in
-    get_or-range_with_len 0 n u 0 lt ∙ start
-
-pub identity_at : (s : List ℕ) (u : ℕ) → u < length s → s ≡ identity (length s) → get_or s u 0 ≡ u
-identity_at s u lt e = ap (λ (l : List ℕ). get_or l u 0) e ∙ identity_read (length s) u lt
+pub source_at_identity : (s : List ℕ) (u : ℕ) → u < length s → s ≡ identity (length s) → get_or s u 0 ≡ u
+source_at_identity s u lt e = ap (λ (l : List ℕ). get_or l u 0) e ∙ identity_at (length s) u lt
 
 pub identity_from : (s : List ℕ) → ((u : ℕ) → u < length s → get_or s u 0 ≡ u) → s ≡ identity (length s)
-identity_from s h = ext_get_or 0 s (identity (length s)) (sym (identity_long (length s))) (λ u lt. h u lt ∙ sym (identity_read (length s) u lt))
+identity_from s h = ext_get_or 0 s (identity (length s)) (sym (identity_long (length s))) (λ u lt. h u lt ∙ sym (identity_at (length s) u lt))

@@ -6,9 +6,10 @@ use Rattle.std.proofs.Math.Seq.{take-append_seam}
 use Rattle.std.proofs.Math.Seq.{get_or-append_seam}
 use Rattle.std.proofs.lemmas.List.{append-nil}
 use Rattle.std.proofs.lemmas.List.Sums.{sum_by-cons, sum_by-append}
-use Rattle.std.proofs.lemmas.Bool.{cases_eq}
+use Rattle.std.proofs.lemmas.Bool.{cases_eq, or_parts}
 use Rattle.std.proofs.lemmas.Bool.Decides.{nat_tests}
 use Rattle.lat_base.specs.Misassignment.{IsMisassignment}
+use Rattle.lat_base.proofs.ShapeFacts.{nothing}
 use Rattle.lat_misassign.specs.declared.fault.MisFault.{MisFault}
 use Rattle.lat_misassign.specs.declared.fault.MisFault.TheVariants.{OutOfRange, Repeated}
 use Rattle.lat_misassign.specs.Sources.{AreSources}
@@ -16,20 +17,11 @@ use Rattle.lat_misassign.specs.SourceFault.{fault_from, source_fault}
 use Rattle.readings.proofs.Within.{within_of}
 use Rattle.lat_misassign.proofs.Counts.{count_of, one_fewer}
 
--- where nothing is found, the test failed and nothing is found after it
-nothing : {A : Type 0} (b : Bool) (x : A) (y : Option A) → cond b (Some x) y ≡ None → (b ≡ false) × (y ≡ None)
-nothing true x y h = cc
-nothing false x y h = (refl, h)
-
-neither : (a b : Bool) → (a || b) ≡ false → (a ≡ false) × (b ≡ false)
-neither true b h = cc
-neither false b h = (refl, h)
-
 -- a number that isn't there stands no time
 none_counted : (t : ℕ) (s : List ℕ) → list_any (λ x. x == t) s ≡ false → count_of t s ≡ 0
 none_counted t [] h = refl
 none_counted t (x ∷ s) h =
-    let parts = neither (x == t) (list_any (λ y. y == t) s) h in
+    let parts = or_parts (x == t) (list_any (λ y. y == t) s) h in
     let here : ◌≡◌ {A = ℕ} (cond (x == t) 1 0) 0 = ap (λ (b : Bool). cond b 1 0) parts.0 in
     omega (arith, sum_by-cons (λ (y : ℕ). cond (y == t) 1 0) x s, here, none_counted t s parts.1)
 

@@ -19,9 +19,8 @@ use Rattle.readings.proofs.Made.{made_at, made_long}
 use Rattle.readings.proofs.Marks.{marks_are}
 use Rattle.readings.proofs.Counting.{count_alike}
 use Rattle.readings.proofs.Readings.{reading_at, reading_long, reading_identity}
-use Rattle.readings.proofs.Ranges.{range_suc}
+use Rattle.readings.proofs.Ranges.{range_suc, ranges_alike}
 use Rattle.readings.proofs.Relabelling.{total_map}
-use Rattle.deck_reading.proofs.Alike.{ranges_alike}
 use Rattle.projection.proofs.Embedding.{there, chosen_at, part_long, part_contest, there_of, there_at, there_in}
 
 -- a cut ballot is the ballot read with the targets of the chosen contests

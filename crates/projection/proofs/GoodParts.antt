@@ -3,6 +3,7 @@ use Rattle.std.proofs.Common.{◌≡◌, ◌<◌, ◌+◌, ◌-◌, ◌&&◌, �
 use Rattle.std.proofs.lemmas.List.{get_or_default, same_lists, get_or-map, length-map}
 use Rattle.std.proofs.lemmas.List.Folds.{list_all-append}
 use Rattle.std.proofs.lemmas.List.FromFn.{length-range_with_len}
+use Rattle.std.proofs.lemmas.Bool.{and_parts, and_from}
 use Rattle.lat_base.specs.declared.contest.Contest.{Contest}
 use Rattle.lat_base.specs.Shape.{target_count, first_target, contest_at, contest_of, CanOvervote}
 use Rattle.lat_base.specs.Misassignment.{identity, source}
@@ -22,7 +23,7 @@ use Rattle.readings.proofs.Reports.{report_same}
 use Rattle.readings.proofs.RobustDecks.{robust_turn}
 use Rattle.readings.proofs.Turned.{place, turn_of}
 use Rattle.readings.proofs.Within.{source_within}
-use Rattle.deck_reading.proofs.Alike.{ranges_alike}
+use Rattle.readings.proofs.Ranges.{ranges_alike}
 use Rattle.projection.proofs.Embedding.{there, here, chosen_at, is_chosen, part_long, part_contest, there_at, there_in, here_there}
 use Rattle.projection.proofs.Cuts.{cut_made, mark_made, cut_long, cut_marks, cut_votes, cut_total}
 use Rattle.projection.proofs.Extended.{extended, extended_there, extended_other, extended_turn, by_chosen}
@@ -96,18 +97,10 @@ robust_part contests chosen deck is fits robust s s_is same =
     let u_in : u < m = omega (arith, lt, s_is.long) in
     get_or_default s u e 0 lt ∙ (stays u u_in ∙ (sym (identity_at m u u_in) ∙ get_or_default (identity m) u 0 e (omega (arith, u_in, length-range_with_len 0 m)))))
 
-and_parts : (x y : Bool) → (x && y) ≡ true → (x ≡ true) × (y ≡ true)
-and_parts true y h = (refl, h)
-and_parts false y h = cc
-
-and_both : (x y : Bool) → x ≡ true → y ≡ true → (x && y) ≡ true
-and_both true y h k = k
-and_both false y h k = cc
-
 blank_taken : (n : ℕ) (b : List Bool) → is_blank b ≡ true → is_blank (take n b) ≡ true
 blank_taken zero b h = refl
 blank_taken (suc n) [] h = refl
-blank_taken (suc n) (mark ∷ b) h = let parts = and_parts (not mark) (is_blank b) h in and_both (not mark) (is_blank (take n b)) parts.0 (blank_taken n b parts.1)
+blank_taken (suc n) (mark ∷ b) h = let parts = and_parts (not mark) (is_blank b) h in and_from (not mark) (is_blank (take n b)) parts.0 (blank_taken n b parts.1)
 
 blank_dropped : (n : ℕ) (b : List Bool) → is_blank b ≡ true → is_blank (drop n b) ≡ true
 blank_dropped zero b h = h
@@ -119,7 +112,7 @@ blank_cut : (contests : List Contest) (chosen : List ℕ) (b : List Bool) → is
 blank_cut contests [] b h = refl
 blank_cut contests (c ∷ chosen) b h =
     list_all-append not (marks_in contests b c) (cut contests chosen b)
-    ∙ and_both (is_blank (marks_in contests b c)) (is_blank (cut contests chosen b))
+    ∙ and_from (is_blank (marks_in contests b c)) (is_blank (cut contests chosen b))
     (blank_taken (first_target contests (c + 1) - first_target contests c) (drop (first_target contests c) b) (blank_dropped (first_target contests c) b h)) (blank_cut contests chosen b h)
 
 -- it obeys the rules there

@@ -36,8 +36,8 @@ fn list_contests(alloc: Global, shape: &Shape, contests: &[u16]) -> Result<Vec<C
     Ok(list)
 }
 
-/// The shape of a part.
-pub fn part_of(alloc: Global, shape: &Shape, contests: &[u16]) -> Result<Shape, AllocError>
+// The shape of a part.
+fn part_of(alloc: Global, shape: &Shape, contests: &[u16]) -> Result<Shape, AllocError>
     requires { IsPart shape.now contests.now }
     ensures { IfOk result (λ shape_of. shape_of ≡ part shape.now contests.now) }
 {

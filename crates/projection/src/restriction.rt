@@ -4,8 +4,6 @@ ghost use Rattle.lat_base.specs.Shape.{target_count};
 ghost use Rattle.lat_base.specs.Part.{IsPart, part, restricted};
 ghost use Rattle.readings.specs.Structural.{targets_of};
 
-use crate::parts::part_of;
-use deck_reading::read_deck;
 use lat_ballots::Deck;
 use lat_base::Shape;
 use std::alloc::{AllocError, Global};
@@ -46,8 +44,8 @@ pub fn restrict(
     ensures { IfOk result (λ cut. cut ≡ record { targets = target_count (part shape.now contests.now); ballots = restricted shape.now contests.now deck.now.ballots }) }
 {
     let _ballots = deck.ballots();
-    let part = part_of(alloc, shape, contests)?;
+    let _contests = shape.contests();
     let sources = list_targets(alloc, shape, contests)?;
-    let cut = read_deck(alloc, &part, deck, sources.as_slice())?;
+    let cut = deck.read(alloc, sources.as_slice())?;
     Ok(cut)
 }

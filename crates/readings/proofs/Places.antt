@@ -76,3 +76,7 @@ contest_is contests c t a = of_one contests (contest_of contests t) c t (is_of c
 -- the i-th target of a contest is of it
 pub nth_is_of : (contests : List Contest) (c i : ℕ) → c < length contests → i < (contest_at contests c).targets → IsOf contests c (first_target contests c + i)
 nth_is_of contests c i h k = record { contest = h; from = omega arith; to = omega (arith, first_next contests c h, k) }
+
+-- a contest's targets are among the style's
+pub nth_within : (contests : List Contest) (c i : ℕ) → c < length contests → i < (contest_at contests c).targets → first_target contests c + i < target_count contests
+nth_within contests c i h k = omega (arith, first_next contests c h, first_le contests (c + 1), k)

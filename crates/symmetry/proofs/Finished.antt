@@ -22,11 +22,11 @@ pub record IsCopy (contests : List Contest) (deck copy : List (List Bool)) : Typ
 
 -- from targets in order and ballots in order
 pub finished : (contests : List Contest) (deck copy result : Ballots) (sources : List ℕ) → IsDeck deck → deck.targets ≡ target_count contests → AreOrdered contests deck.ballots sources
-    → copy ≡ record { targets = target_count contests; ballots = map (λ ballot. reading ballot sources) deck.ballots } → IsPermutation copy.ballots result.ballots → AreFalling result.ballots → IsCopy contests deck.ballots result.ballots
+    → copy.ballots ≡ map (λ ballot. reading ballot sources) deck.ballots → IsPermutation copy.ballots result.ballots → AreFalling result.ballots → IsCopy contests deck.ballots result.ballots
 finished contests deck copy result sources is targets ordered copy_is same falling =
     let n = target_count contests in
     let fits : Fits n deck.ballots = subst (λ (m : ℕ). Fits m deck.ballots) targets is.fits in
-    let relabel : copy.ballots ≡ relabelled n ordered.from deck.ballots = ap (λ (d : Ballots). d.ballots) copy_is ∙ ap (λ (s : List ℕ). map (λ ballot. reading ballot s) deck.ballots) ordered.are in
+    let relabel : copy.ballots ≡ relabelled n ordered.from deck.ballots = copy_is ∙ ap (λ (s : List ℕ). map (λ ballot. reading ballot s) deck.ballots) ordered.are in
     let ballots = subst (λ (d : List (List Bool)). IsPermutation d result.ballots) relabel same in
     let reordered : IsReordered contests deck.ballots result.ballots = record { source = ordered.from; targets = ordered.is; ballots = ballots } in
     record {

@@ -11,7 +11,6 @@ ghost use Rattle.symmetry.specs.Order.{RiseWithin, AreEarlier};
 use crate::contest_order::order_contests;
 use crate::counted::{Counted, count_targets, list_targets};
 use crate::target_order::order_targets;
-use deck_reading::read_deck;
 use lat_ballots::Deck;
 use lat_base::Shape;
 use std::alloc::{AllocError, Global};
@@ -50,7 +49,7 @@ pub fn canonical(alloc: Global, shape: &Shape, deck: Deck) -> Result<Deck, Alloc
     ensures targets { IfOk result (λ copy. copy.targets ≡ deck.targets) }
 {
     let sources = ordered_targets(alloc, shape, &deck)?;
-    let mut copy = read_deck(alloc, shape, &deck, sources.as_slice())?;
+    let mut copy = deck.read(alloc, sources.as_slice())?;
     copy.sort_rows(alloc)?;
     Ok(copy)
 }

@@ -4,7 +4,7 @@ ghost use Rattle.lat_base.specs.Shape.{target_count, first_target, contest_at};
 use lat_base::Shape;
 
 /// Target number `i` of contest `c`.
-#[tactic(auto, using(crate::proofs::ContestPlaces::place_within))]
+#[tactic(auto, using(readings::proofs::Places::nth_within))]
 pub fn target_of(shape: &Shape, c: u16, i: u16) -> u16
     requires contest { c < length shape.now }
     requires target { i < (contest_at shape.now c).targets }

@@ -1,8 +1,8 @@
 use Rattle.std.proofs.Common.{◌≡◌, ◌+◌, ◌-◌, ◌<◌, ◌≤◌, suc, max, List, ap, ◌∙◌, arith}
 use Rattle.lat_base.specs.declared.contest.Contest.{Contest}
 use Rattle.lat_base.specs.Shape.{target_count, first_target, contest_at, no_contest}
+use Rattle.readings.proofs.Places.{nth_within}
 use Rattle.deck_state.specs.Votes.{lo}
-use Rattle.close_rules.proofs.Along.{inside}
 use Rattle.close_rules.proofs.FewVotes.{lo_few}
 use Rattle.close_rules.proofs.Rising.{sum_further}
 use Rattle.close_rules.proofs.capacity.sum_of_least.Goals as goal
@@ -16,7 +16,7 @@ loop-i-preserved c =
     let m = c.contest-targets.result.targets - (c.loop-i.i + 1) in
     let first : c.first_of-first.result ≡ first_target contests c.args.c = c.first_of-first.ensures.value ∙ ap (λ (x : List Contest). first_target x c.args.c) c.shape.ensures.value in
     let targets : c.contest-targets.result.targets ≡ (contest_at contests c.args.c).targets = ap (λ (x : Contest). x.targets) c.contest-targets.ensures ∙ ap (λ (x : List Contest). (contest_at x c.args.c).targets) c.shape-2.ensures.value in
-    let within : t < target_count contests = omega (arith, first, inside contests c.args.c c.loop-i.i c.requires (omega (arith, targets, c.loop-i-test.true))) in
+    let within : t < target_count contests = omega (arith, first, nth_within contests c.args.c c.loop-i.i c.requires (omega (arith, targets, c.loop-i-test.true))) in
     let few : c.lo.result ≤ 1024 = omega (arith, c.lo.ensures, lo_few p t c.shape.ensures.partial within) in
     let at_most : (contest_at contests c.args.c).targets ≤ 64 = (c.shape.ensures.partial.shape.counts c.args.c no_contest c.requires).1 in
     let least : c.max-least.result ≡ max c.loop-i.from (lo p t) = c.max-least.ensures ∙ ap (max c.loop-i.from) c.lo.ensures in

@@ -2,15 +2,16 @@ use Rattle.std.proofs.Common.{◌≡◌, ◌+◌, ◌-◌, suc, true, ap, ◌∙
 use Rattle.std.proofs.lemmas.Bool.Decides.{nat_tests}
 use Rattle.lat_base.specs.declared.contest.Contest.{Contest}
 use Rattle.lat_base.specs.Shape.{contest_at}
+use Rattle.readings.proofs.Places.{nth_within}
 use Rattle.close_rules.specs.Evading.{stays}
-use Rattle.close_rules.proofs.Along.{inside, passes_here}
+use Rattle.close_rules.proofs.Along.{passes_here}
 use Rattle.close_rules.proofs.evading.is_left.Goals as goal
 
 pub overflow_add-first : goal.overflow_add-first
-overflow_add-first c = omega (arith, c.targets-targets.ensures.shape.few_targets, c.first_of-first.ensures.value, inside c.args.shape.now c.args.c c.loop-i.i c.requires.contest (omega (arith, c.loop-i-test.true, ap (λ (x : Contest). x.targets) c.contest-i-end.ensures)))
+overflow_add-first c = omega (arith, c.targets-targets.ensures.shape.few_targets, c.first_of-first.ensures.value, nth_within c.args.shape.now c.args.c c.loop-i.i c.requires.contest (omega (arith, c.loop-i-test.true, ap (λ (x : Contest). x.targets) c.contest-i-end.ensures)))
 
 pub overflow_add-first-in-loop-i : goal.overflow_add-first-in-loop-i
-overflow_add-first-in-loop-i c = omega (arith, c.targets-targets.ensures.shape.few_targets, c.first_of-first.ensures.value, inside c.args.shape.now c.args.c c.loop-i.i c.requires.contest (omega (arith, c.loop-i-test.true, ap (λ (x : Contest). x.targets) c.contest-i-end.ensures)))
+overflow_add-first-in-loop-i c = omega (arith, c.targets-targets.ensures.shape.few_targets, c.first_of-first.ensures.value, nth_within c.args.shape.now c.args.c c.loop-i.i c.requires.contest (omega (arith, c.loop-i-test.true, ap (λ (x : Contest). x.targets) c.contest-i-end.ensures)))
 
 pub loop-i-preserved : goal.loop-i-preserved
 loop-i-preserved c =

@@ -3,8 +3,9 @@ use Rattle.std.specs.Ordering.{nat_cmp}
 use Rattle.std.specs.declared.cmp.Ordering.TheVariants.{Equal}
 use Rattle.lat_base.specs.declared.contest.Contest.{Contest}
 use Rattle.lat_base.specs.Shape.{contest_at, first_target}
+use Rattle.readings.proofs.Places.{nth_within}
 use Rattle.deck_state.specs.Votes.{lo}
-use Rattle.close_rules.proofs.Along.{inside, equal_here, differs_here, is_equal, is_unequal}
+use Rattle.close_rules.proofs.Along.{equal_here, differs_here, is_equal, is_unequal}
 use Rattle.close_rules.proofs.fixed.compare_lows.Goals as goal
 
 pub lo-requires : goal.lo-requires
@@ -12,14 +13,14 @@ lo-requires c =
     let contests = c.args.state.now.contests in
     let here : c.first_of-here.result ≡ first_target contests c.args.c = c.first_of-here.ensures.value ∙ ap (λ (x : List Contest). first_target x c.args.c) c.shape.ensures.value in
     let targets : c.contest-targets.result.targets ≡ (contest_at contests c.args.c).targets = ap (λ (x : Contest). x.targets) c.contest-targets.ensures ∙ ap (λ (x : List Contest). (contest_at x c.args.c).targets) c.shape-3.ensures.value in
-    omega (arith, here, inside contests c.args.c c.loop-i.i c.requires.first (omega (arith, targets, c.loop-i-test.true)))
+    omega (arith, here, nth_within contests c.args.c c.loop-i.i c.requires.first (omega (arith, targets, c.loop-i-test.true)))
 
 pub lo-requires-in-loop-i : goal.lo-requires-in-loop-i
 lo-requires-in-loop-i c =
     let contests = c.args.state.now.contests in
     let there : c.first_of-there.result ≡ first_target contests c.args.d = c.first_of-there.ensures.value ∙ ap (λ (x : List Contest). first_target x c.args.d) c.shape-2.ensures.value in
     let targets : c.contest-targets.result.targets ≡ (contest_at contests c.args.c).targets = ap (λ (x : Contest). x.targets) c.contest-targets.ensures ∙ ap (λ (x : List Contest). (contest_at x c.args.c).targets) c.shape-3.ensures.value in
-    omega (arith, there, inside contests c.args.d c.loop-i.i c.requires.second (omega (arith, targets, c.requires.alike, c.loop-i-test.true)))
+    omega (arith, there, nth_within contests c.args.d c.loop-i.i c.requires.second (omega (arith, targets, c.requires.alike, c.loop-i-test.true)))
 
 pub returns-then-ne : goal.returns-then-ne
 returns-then-ne c =

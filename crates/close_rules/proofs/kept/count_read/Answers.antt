@@ -2,10 +2,11 @@ use Rattle.std.proofs.Common.{◌≡◌, ◌+◌, ◌<◌, ◌≤◌, ℕ, Bool,
 use Rattle.std.specs.Prelude.{slice_range}
 use Rattle.lat_base.specs.Shape.{first_target, target_count}
 use Rattle.lat_base.specs.Tally.{reading}
+use Rattle.deck_state.proofs.Seen.{at_most_one}
 use Rattle.readings.proofs.Places.{first_next}
 use Rattle.deck_state.specs.declared.mark.Mark.TheVariants.{Marked}
 use Rattle.deck_state.specs.Mark.{is_marked}
-use Rattle.close_rules.proofs.RowVotes.{source_in, read_mark, read_more, at_most_one}
+use Rattle.close_rules.proofs.RowVotes.{source_in, read_mark, read_more}
 use Rattle.close_rules.proofs.kept.count_read.Goals as goal
 
 pub bounds-row-source : goal.bounds-row-source
