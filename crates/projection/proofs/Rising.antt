@@ -137,9 +137,10 @@ chosen_once chosen rising p q p_in q_in same = elim (cases_lt p q) [
   ]
 ]
 
--- a part has at most as many contests as a style may have
+-- a part has at most as many targets as a style may have
 pub part_few_targets : (contests : List Contest) (chosen : List ℕ) → IsShape contests → IsPart contests chosen → target_count (part contests chosen) ≤ 256
 part_few_targets contests chosen shape is = omega (arith, targets_left contests 0 chosen (part_rises contests chosen is), shape.few_targets)
 
+-- and at most as many contests
 pub part_few : (contests : List Contest) (chosen : List ℕ) → IsShape contests → IsPart contests chosen → length (part contests chosen) ≤ 128
 part_few contests chosen is chose = omega (arith, few_risen (length contests) 0 chosen (part_rises contests chosen chose) (omega arith), is.few, length-map chosen (contest_at contests))
