@@ -1,15 +1,24 @@
 -- What is found where reasons are tried one by one.
-use Rattle.std.proofs.Common.{◌≡◌, ℕ, true, false, Option, Some, None, refl, sym, ◌∙◌}
+use Rattle.std.proofs.Common.{◌≡◌, ◌+◌, ◌<◌, ℕ, true, false, Option, Some, None, refl, sym, subst, ◌∙◌, arith, inl, inr}
 use Rattle.std.specs.Prelude.{◌↔◌}
+use Rattle.std.proofs.lemmas.Bool.{cases_lt}
 use Rattle.deck_state.specs.PartialDeck.{PartialDeck}
 use Rattle.close_rules.specs.declared.reason.Reason.{Reason}
 use Rattle.close_rules.specs.declared.reason.Reason.TheVariants.{Order, Totals, Capacity, Blank, Over, Twin, ContestOrder, Pigeon, Columns, Same, Evade}
 use Rattle.close_rules.specs.Refutes.{refutes, IsCheap, Closes}
 
+-- what holds of each number below one and of that number
+pub one_more : (P : ℕ → Type 0) (n : ℕ) → ((k : ℕ) → k < n → P k) → P n → (k : ℕ) → k < n + 1 → P k
+one_more P n below at k lt = elim (cases_lt k n) [
+  | inl less ↦ below k less
+  | inr more ↦ let is : n ≡ k = omega (arith, lt, more) in subst P is at
+]
+
 -- each kind of reason was tried
 pub record AreTried (p : PartialDeck) : Type 0 where
   pub columns : refutes p Columns ≡ false
   pub blank : refutes p Blank ≡ false
+  pub pigeon : (c : ℕ) → refutes p (Pigeon c) ≡ false
   pub order : (j : ℕ) → refutes p (Order j) ≡ false
   pub contest : (c : ℕ) → (refutes p (Totals c) ≡ false) × (refutes p (Capacity c) ≡ false) × (refutes p (Over c) ≡ false)
   pub same : (t u : ℕ) → refutes p (Same t u) ≡ false
@@ -24,7 +33,7 @@ none_holds p tried Blank is = tried.blank
 none_holds p tried (Over c) is = (tried.contest c).2
 none_holds p tried (Twin c d) is = (tried.pair c d).0
 none_holds p tried (ContestOrder c d) is = (tried.pair c d).1
-none_holds p tried (Pigeon c) is = refl
+none_holds p tried (Pigeon c) is = tried.pigeon c
 none_holds p tried Columns is = tried.columns
 none_holds p tried (Same t u) is = tried.same t u
 none_holds p tried (Evade s) is = absurd is

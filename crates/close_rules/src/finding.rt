@@ -118,6 +118,19 @@ fn find_same(state: &Partial) -> Option<Reason>
     None
 }
 
+// A contest that is one of too many of its shape.
+fn find_pigeon(state: &Partial) -> Option<Reason>
+    ensures none { result ≡ None → (c : ℕ) → refutes state.now (Reason.Pigeon c) ≡ false }
+    ensures some { (r : Reason) → result ≡ Some r → Closes state.now r }
+{
+    for c in 0..state.shape().contests() {
+        if let Some(reason) = tested(state, Reason::Pigeon(c)) {
+            return Some(reason);
+        }
+    }
+    None
+}
+
 fn find_reason(state: &Partial) -> Option<Reason>
     ensures none { result ≡ None → (r : Reason) → IsCheap r → refutes state.now r ≡ false }
     ensures some { (r : Reason) → result ≡ Some r → Closes state.now r }
@@ -126,6 +139,9 @@ fn find_reason(state: &Partial) -> Option<Reason>
         return Some(reason);
     }
     if let Some(reason) = tested(state, Reason::Blank) {
+        return Some(reason);
+    }
+    if let Some(reason) = find_pigeon(state) {
         return Some(reason);
     }
     if let Some(reason) = find_order(state) {
