@@ -5,6 +5,7 @@ mod allowing;
 mod decks;
 mod law;
 
+pub use allowing::is_allowed;
 pub use decks::Decks;
 pub use law::{checked_tree_leaves_no_good_deck, shown_solution_is_value};
 

@@ -3,6 +3,8 @@ pub mod InOrder
 pub mod Swaps
 pub mod ContestPlaces
 pub mod GoodDecks
+pub mod Copies
+pub mod Falls
 pub mod CanonicalDecks
 pub mod Orders
 pub mod CanonicalCopies
