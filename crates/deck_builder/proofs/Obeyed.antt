@@ -17,6 +17,7 @@ use Rattle.readings.proofs.Counting.{count_alike, count_map}
 use Rattle.readings.proofs.Marks.{marks_are}
 use Rattle.readings.proofs.Places.{IsOf, is_of, nth_is_of, nth_within, contest_is, first_next}
 use Rattle.readings.proofs.Readings.{reading_identity}
+use Rattle.symmetry.proofs.Copies.{copies_that, all_copies, no_copies, full_overvoted, full_votes as votes_of_full, unmarked_blank, unmarked_votes}
 use Rattle.deck_builder.specs.Pattern.{Pattern, Fits, FitsContest, mark_total, place, is_laid, working_ballot, pattern_ballots}
 use Rattle.deck_builder.proofs.PatternRows.{full, unmarked, over_rows, working_rows, blank_rows}
 use Rattle.deck_builder.proofs.Raised.{few_marks, least_marks, marks_rise}
@@ -27,17 +28,6 @@ in_three : (f : List Bool → Bool) (p : Pattern) → count_by f (pattern_ballot
 in_three f p =
     omega (arith, sum_by-append (λ (b : List Bool). cond (f b) 1 0) (over_rows p ++ working_rows p) (blank_rows p), sum_by-append (λ (b : List Bool). cond (f b) 1 0) (over_rows p) (working_rows p))
 
--- copies of a ballot that passes a test or not
-all_copies : (f : List Bool → Bool) (n : ℕ) (b : List Bool) → f b ≡ true → count_by f (replicate n b) ≡ n
-all_copies f n b e =
-    let one : n * cond (f b) 1 0 ≡ n * 1 = ap (λ (t : Bool). n * cond t 1 0) e in
-    omega (arith, sum_by-replicate (λ (x : List Bool). cond (f x) 1 0) n b, one)
-
-no_copies : (f : List Bool → Bool) (n : ℕ) (b : List Bool) → f b ≡ false → count_by f (replicate n b) ≡ 0
-no_copies f n b e =
-    let none : n * cond (f b) 1 0 ≡ n * 0 = ap (λ (t : Bool). n * cond t 1 0) e in
-    omega (arith, sum_by-replicate (λ (x : List Bool). cond (f x) 1 0) n b, none)
-
 -- each ballot has a mark or none for each target
 pub fit : (p : Pattern) → FitTargets (target_count p.contests) (pattern_ballots p)
 fit p =
@@ -46,23 +36,6 @@ fit p =
     (All-append long (over_rows p) (working_rows p) (All-replicate long p.rules.over (full p) (length-replicate (target_count p.contests) true))
     (All-map long (working_ballot p) (range_with_len 0 p.working) (λ i d lt. working_long p (get_or (range_with_len 0 p.working) i d))))
     (All-replicate long p.rules.blank (unmarked p) (length-replicate (target_count p.contests) false))
-
--- a wholly marked ballot overvotes each contest that can be
-all_true : (ns : List ℕ) → count_by (λ n. true) ns ≡ length ns
-all_true [] = refl
-all_true (n ∷ ns) = omega (arith, sum_by-cons (λ (m : ℕ). cond true 1 0) n ns, all_true ns)
-
-full_marks : (p : Pattern) (c : ℕ) → c < length p.contests → mark_count p.contests (full p) c ≡ (contest_at p.contests c).targets
-full_marks p c h =
-    let n = (contest_at p.contests c).targets in
-    let first = first_target p.contests c in
-    ap (count_by (λ (x : Bool). x)) (marks_are p.contests (full p) c h (length-replicate (target_count p.contests) true))
-    ∙ (count_map (is_marked (full p)) (λ (x : Bool). x) (targets_of p.contests c)
-    ∙ (count_alike (is_marked (full p)) (λ t. true) (targets_of p.contests c)
-    (λ i d lt.
-    let i_in : i < n = omega (arith, lt, length-range_with_len first n) in
-    ap (is_marked (full p)) (get_or-range_with_len first n i d i_in) ∙ get_or-replicate (target_count p.contests) (first + i) true false (nth_within p.contests c i h i_in))
-    ∙ (all_true (targets_of p.contests c) ∙ length-range_with_len first n)))
 
 -- votes ballot by ballot
 own : (p : Pattern) (t : ℕ) → own_total p.contests (pattern_ballots p) t ≡ count_by (λ ballot. votes_for p.contests ballot t) (pattern_ballots p)
@@ -81,16 +54,13 @@ total_is p c i h fits lt =
     let votes : List Bool → Bool = λ b. votes_for p.contests b t in
     let t_in = nth_within p.contests c i h lt in
     let of : contest_of p.contests t ≡ c = contest_is p.contests c t (nth_is_of p.contests c i h lt) in
-    let marked : is_marked (full p) t ≡ true = get_or-replicate (target_count p.contests) t true false t_in in
-    let blank : is_marked (unmarked p) t ≡ false = get_or-replicate (target_count p.contests) t false false t_in in
-    let whole : votes (full p) ≡ not (is_overvoted p.contests (full p) c) = λ k. marked k && not (is_overvoted p.contests (full p) (of k)) in
-    let none : votes (unmarked p) ≡ false = λ k. blank k && not (is_overvoted p.contests (unmarked p) (contest_of p.contests t)) in
-    let over : count_by votes (over_rows p) ≡ full_votes p c = sum_by-replicate (λ (b : List Bool). cond (votes b) 1 0) p.rules.over (full p) ∙ ap (λ (x : Bool). p.rules.over * cond x 1 0) whole in
+    let whole : votes (full p) ≡ not (is_overvoted p.contests (full p) c) = votes_of_full p.contests t t_in ∙ ap (λ (x : ℕ). not (is_overvoted p.contests (full p) x)) of in
+    let over : count_by votes (over_rows p) ≡ full_votes p c = copies_that votes p.rules.over (full p) (not (is_overvoted p.contests (full p) c)) whole in
     let working : count_by votes (working_rows p) ≡ mark_total p c i =
     count_map (working_ballot p) votes (range_with_len 0 p.working)
     ∙ (count_alike (λ b. votes (working_ballot p b)) (is_laid p.working (place p c i) (mark_total p c i)) (range_with_len 0 p.working) (λ j d within. working_votes p (get_or (range_with_len 0 p.working) j d) c i h fits lt)
     ∙ spread p.working (place p c i) (mark_total p c i) (few_marks p c i fits lt)) in
-    omega (arith, own p t, in_three votes p, over, working, no_copies votes p.rules.blank (unmarked p) none)
+    omega (arith, own p t, in_three votes p, over, working, no_copies votes p.rules.blank (unmarked p) (unmarked_votes p.contests t t_in))
 
 -- each target by its place in its contest
 record IsPlace (p : Pattern) (c t : ℕ) : Type 0 where
@@ -111,11 +81,9 @@ total_at p c t fits is = ap (own_total p.contests (pattern_ballots p)) is.at ∙
 pub obeyed : (p : Pattern) → Fits p → Obeys p.contests p.rules (pattern_ballots p)
 obeyed p fits = record {
   blank =
-      let none : is_blank (unmarked p) ≡ true = list_all-from_AllPass not (unmarked p) (All-replicate (λ (m : Bool). not m ≡ true) (target_count p.contests) false refl) in
-      omega (arith, in_three is_blank p, all_copies is_blank p.rules.blank (unmarked p) none);
+      omega (arith, in_three is_blank p, all_copies is_blank p.rules.blank (unmarked p) (unmarked_blank p.contests));
   over = λ c h can.
-      let over : is_overvoted p.contests (full p) c ≡ true = lt-ltb (contest_at p.contests c).limit (mark_count p.contests (full p) c) (omega (arith, can, full_marks p c h)) in
-      omega (arith, in_three (λ b. is_overvoted p.contests b c) p, all_copies (λ b. is_overvoted p.contests b c) p.rules.over (full p) over);
+      omega (arith, in_three (λ b. is_overvoted p.contests b c) p, all_copies (λ b. is_overvoted p.contests b c) p.rules.over (full p) (full_overvoted p.contests c h can));
   least = λ t h.
       let c = contest_of p.contests t in
       omega (arith, total_at p c t fits (place_of p c t (is_of p.contests t h)), least_marks p c (t - first_target p.contests c));

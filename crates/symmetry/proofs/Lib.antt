@@ -6,6 +6,8 @@ pub mod GoodDecks
 pub mod Copies
 pub mod Falls
 pub mod CanonicalDecks
+pub mod PlainBallots
+pub mod PlainDeck
 pub mod Orders
 pub mod CanonicalCopies
 pub mod Partly

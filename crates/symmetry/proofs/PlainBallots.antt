@@ -2,7 +2,7 @@
 use Rattle.std.proofs.Common.{◌≡◌, ◌≢◌, ◌+◌, ◌-◌, ◌*◌, ◌<◌, ◌≤◌, ◌&&◌, ◌++◌, ℕ, zero, suc, Bool, true, false, not, List, [], ◌∷◌, length, get_or, replicate, cond, count_by, refl, ap, sym, subst, ◌∙◌, arith, All, inl, inr}
 use Rattle.std.specs.Prelude.{◌==◌}
 use Rattle.std.specs.List.{range_with_len, flat_map}
-use Rattle.std.proofs.lemmas.Bool.{cases_eq, le-ltb, neq-eqb, eq-eqb}
+use Rattle.std.proofs.lemmas.Bool.{cases_eq, cases_lt, le-ltb, ne_eqb, eq-eqb}
 use Rattle.std.proofs.lemmas.List.{get_or-set_same, get_or-set_other, get_or-replicate, get_or_past, length-replicate}
 use Rattle.std.proofs.Math.ListN.{length-set}
 use Rattle.std.proofs.lemmas.List.Concat.{flat_map-cons}
@@ -32,7 +32,7 @@ abbrev pub plain : List Contest → RuleSet → List (List Bool)
 plain contests rules = (plain_ballots (target_count contests) rules).ballots
 
 -- a ballot that marks only a target that is at least t
-record IsSingle (n t : ℕ) (ballot : List Bool) : Type 0 where
+pub record IsSingle (n t : ℕ) (ballot : List Bool) : Type 0 where
   pub target : ℕ
   pub from : t ≤ target
   pub within : target < n
@@ -53,7 +53,7 @@ are_single n rules t (suc m) le =
 pub only_mark : (n t u : ℕ) → t < n → is_marked (only n t) u ≡ (u == t)
 only_mark n t u h = elim (cases_eq u t) [
   | inl same ↦ ap (is_marked (only n t)) same ∙ (get_or-set_same (replicate n false) t true false (omega (arith, h, length-replicate n false)) ∙ sym (eq-eqb u t same))
-  | inr other ↦ get_or-set_other (replicate n false) t u true false other ∙ (none ∙ sym (neq-eqb u t other))
+  | inr other ↦ get_or-set_other (replicate n false) t u true false other ∙ (none ∙ sym (ne_eqb u t other))
 ]
   where
     none : get_or (replicate n false) u false ≡ false
@@ -62,7 +62,7 @@ only_mark n t u h = elim (cases_eq u t) [
       | inr le ↦ get_or_past (replicate n false) u false (omega (arith, le, length-replicate n false))
     ]
 
-only_long : (n t : ℕ) → length (only n t) ≡ n
+pub only_long : (n t : ℕ) → length (only n t) ≡ n
 only_long n t = length-set (replicate n false) t true ∙ length-replicate n false
 
 -- it isn't overvoted in the contest of its mark
@@ -88,7 +88,7 @@ only_votes contests t u shape h u_in = elim (cases_eq u t) [
       let fine : is_overvoted contests (only (target_count contests) t) (contest_of contests u) ≡ false = ap (λ (x : ℕ). is_overvoted contests (only (target_count contests) t) (contest_of contests x)) same ∙ only_fine contests t shape h in
       (λ k. (only_mark (target_count contests) t u h ∙ eq-eqb u t same) k && not (fine k)) ∙ sym (eq-eqb u t same)
   | inr other ↦
-      (λ k. (only_mark (target_count contests) t u h ∙ neq-eqb u t other) k && not (is_overvoted contests (only (target_count contests) t) (contest_of contests u))) ∙ sym (neq-eqb u t other)
+      (λ k. (only_mark (target_count contests) t u h ∙ ne_eqb u t other) k && not (is_overvoted contests (only (target_count contests) t) (contest_of contests u))) ∙ sym (ne_eqb u t other)
 ]
 
 -- how many ballots of one mark vote for target u, of those of so many targets from t on
@@ -104,10 +104,10 @@ in_singles contests rules u t (suc m) shape u_in le =
     let later = in_singles contests rules u (t + 1) m shape u_in (omega (arith, le)) in
     let both = sum_by-append (λ (b : List Bool). cond (votes b) 1 0) (replicate copies (only n t)) rest in
     let mark = only_votes contests t u shape (omega (arith, le)) u_in in (
-      λ lt. omega (arith, both, no_copies votes copies (only n t) (mark ∙ neq-eqb u t (λ e. absurd (omega (arith, lt, e)))), later.0 (omega (arith, lt))),
+      λ lt. omega (arith, both, no_copies votes copies (only n t) (mark ∙ ne_eqb u t (λ e. absurd (omega (arith, lt, e)))), later.0 (omega (arith, lt))),
       λ from to. elim (cases_eq u t) [
         | inl same ↦ omega (arith, both, all_copies votes copies (only n t) (mark ∙ eq-eqb u t same), later.0 (omega (arith, same)), same)
-        | inr other ↦ omega (arith, both, no_copies votes copies (only n t) (mark ∙ neq-eqb u t other), later.1 (omega (arith, from, other)) (omega (arith, to)))
+        | inr other ↦ omega (arith, both, no_copies votes copies (only n t) (mark ∙ ne_eqb u t other), later.1 (omega (arith, from, other)) (omega (arith, to)))
       ],
     )
 
