@@ -20,6 +20,7 @@ pub mod Touched
 pub mod Evasion
 pub mod Pigeons
 pub mod Refuted
+pub mod Untested
 pub mod Found
 pub mod Kids
 pub mod CompleteRows

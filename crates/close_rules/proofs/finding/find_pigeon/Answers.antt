@@ -5,4 +5,4 @@ use Rattle.close_rules.proofs.Found.{one_more}
 use Rattle.close_rules.proofs.finding.find_pigeon.Goals as goal
 
 pub loop-c-preserved : goal.loop-c-preserved
-loop-c-preserved c = one_more (λ k. refutes c.args.state.now (Pigeon k) ≡ false) c.loop-c.c c.loop-c.invariant (c.tested.ensures.none c.in_default.is)
+loop-c-preserved c = one_more (λ k. refutes c.args.state.now (Pigeon k) ≡ false) c.loop-c.c c.loop-c.invariant (c.find_pigeon_at.ensures.none c.in_default.is c.loop-c.invariant)
