@@ -53,7 +53,13 @@ fn print_style(rt: &HostRuntime, shape: &Shape, rules: &Rules) -> Result<(), All
 }
 
 // The style of contests given as limits and numbers of targets, under rules of these numbers.
-fn print_patterns(rt: &HostRuntime, contests: [(u16, u16); 3], least: u16, blank: u16, over: u16) -> bool {
+fn print_patterns(
+    rt: &HostRuntime,
+    contests: [(u16, u16); 3],
+    least: u16,
+    blank: u16,
+    over: u16,
+) -> bool {
     let mut list = Vec::new(rt.alloc());
     for (limit, targets) in contests {
         if targets > 0 && list.push(Contest { limit, targets }).is_err() {
