@@ -8,8 +8,8 @@ use Rattle.lat_base.specs.Shape.{target_count, first_target, contest_at, contest
 use Rattle.lat_base.specs.Tally.{is_marked, mark_count, is_overvoted, votes_for, own_total}
 use Rattle.lat_base.specs.Rules.{is_blank}
 use Rattle.readings.specs.Structural.{targets_of}
-use Rattle.readings.proofs.Counting.{count_map}
-use Rattle.readings.proofs.DoubleSums.{sums_exchanged}
+use Rattle.lemmas.proofs.Counting.{count_map}
+use Rattle.lemmas.proofs.DoubleSums.{sums_exchanged}
 use Rattle.readings.proofs.Marks.{marks_are}
 use Rattle.readings.proofs.Places.{first_next, first_le, contest_is}
 use Rattle.deck_state.specs.declared.mark.Mark.{Mark}

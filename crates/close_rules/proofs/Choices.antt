@@ -4,7 +4,7 @@ use Rattle.std.specs.Prelude.{nat_le, ◌⊎◌}
 use Rattle.std.specs.List.{range_with_len, sum}
 use Rattle.std.proofs.lemmas.Bool.{cases_lt, le-leb, lt-leb}
 use Rattle.std.proofs.lemmas.List.Sums.{sum_by-cons, sum_by-append, length-filter}
-use Rattle.readings.proofs.Counting.{count_alike, count_map, none_pass}
+use Rattle.lemmas.proofs.Counting.{count_alike, count_map, none_pass}
 use Rattle.close_rules.specs.Pigeon.{choices, rising_lists}
 
 -- whether a list has a sum of at most so much

@@ -6,7 +6,7 @@ use Rattle.lat_base.specs.declared.contest.Contest.{Contest}
 use Rattle.lat_base.specs.Shape.{target_count, first_target, contest_of}
 use Rattle.lat_base.specs.Tally.{mark_count, votes_for, own_total}
 use Rattle.lat_base.specs.Tally as tally
-use Rattle.readings.proofs.Counting.{count_alike}
+use Rattle.lemmas.proofs.Counting.{count_alike}
 use Rattle.readings.proofs.Places.{first_le}
 use Rattle.deck_state.specs.declared.mark.Mark.{Mark}
 use Rattle.deck_state.specs.declared.mark.Mark.TheVariants.{Marked, Unmarked, Undecided}

@@ -20,7 +20,7 @@ use Rattle.lat_base.specs.Shape.{first_target, contest_at, no_contest}
 use Rattle.lat_base.specs.Tally.{own_total}
 use Rattle.readings.specs.Structural.{targets_of}
 use Rattle.readings.proofs.ContestExchange.{twins_differ}
-use Rattle.readings.proofs.Counting.{count_map}
+use Rattle.lemmas.proofs.Counting.{count_map}
 use Rattle.deck_state.specs.PartialDeck.{PartialDeck}
 use Rattle.deck_state.specs.Trail.{IsPartial}
 use Rattle.deck_state.proofs.Enclosed.{own_votes}

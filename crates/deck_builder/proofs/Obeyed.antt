@@ -13,7 +13,7 @@ use Rattle.lat_base.specs.Rules.{Obeys, is_blank}
 use Rattle.lat_base.specs.Shape.{target_count, first_target, contest_at, contest_of}
 use Rattle.lat_base.specs.Tally.{is_marked, mark_count, is_overvoted, reading, votes_for, own_total}
 use Rattle.readings.specs.Structural.{targets_of}
-use Rattle.readings.proofs.Counting.{count_alike, count_map}
+use Rattle.lemmas.proofs.Counting.{count_alike, count_map}
 use Rattle.readings.proofs.Marks.{marks_are}
 use Rattle.readings.proofs.Places.{IsOf, is_of, nth_is_of, nth_within, contest_is, first_next}
 use Rattle.readings.proofs.Readings.{reading_identity}

@@ -3,7 +3,7 @@ use Rattle.std.proofs.Common.{◌≡◌, ◌+◌, ◌-◌, ◌<◌, ◌≤◌, �
 use Rattle.std.specs.List.{range_with_len, sum_by}
 use Rattle.lat_base.specs.Shape.{target_count, first_target, contest_at, contest_of}
 use Rattle.readings.proofs.Places.{IsOf, is_of, nth_is_of, contest_is, first_next}
-use Rattle.readings.proofs.Ranges.{made_more, sum_more}
+use Rattle.lemmas.proofs.Ranges.{made_more, sum_more}
 use Rattle.deck_builder.specs.declared.runs.Run.{Run}
 use Rattle.deck_builder.specs.Pattern.{Pattern, FitsContest, Fits, size, mark_total, place}
 use Rattle.deck_builder.specs.Runs.{run_of, runs_of}

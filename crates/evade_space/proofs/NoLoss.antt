@@ -5,8 +5,8 @@ use Rattle.std.proofs.lemmas.List.Sums.{sum_by-cons}
 use Rattle.std.proofs.lemmas.Bool.Decides.{nat_tests}
 use Rattle.lat_base.specs.declared.contest.Contest.{Contest}
 use Rattle.lat_base.specs.Shape.{first_target, contest_at}
-use Rattle.readings.proofs.Counting.{none_pass}
-use Rattle.readings.proofs.Sides.{range_both}
+use Rattle.lemmas.proofs.Counting.{none_pass}
+use Rattle.lemmas.proofs.Sides.{range_both}
 use Rattle.evade_space.specs.Sources.{source_at, given_places}
 use Rattle.evade_space.specs.Seen.{is_seen, seen, taken}
 use Rattle.evade_space.specs.Losses.{lost_on, lost_in}

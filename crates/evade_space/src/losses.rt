@@ -33,7 +33,7 @@ fn lost_in(shape: &Shape, deck: &Deck, sources: &[Option<u16>], c: u16) -> u32
 }
 
 // How many marks are surely lost.
-#[tactic(auto, using(readings::proofs::Ranges::sum_more))]
+#[tactic(auto, using(lemmas::proofs::Ranges::sum_more))]
 pub fn lost(shape: &Shape, deck: &Deck, sources: &[Option<u16>]) -> u32
     requires deck { deck.now.targets ≡ target_count shape.now }
     requires sources { AreGiven (target_count shape.now) sources.now }

@@ -13,7 +13,7 @@ use Rattle.lat_base.specs.Rules.{RuleSet}
 use Rattle.lat_ballots.specs.Deck.{Ballots, AreRows, ballots_of}
 use Rattle.lat_ballots.specs.Plain.{only, only_ballots, plain_ballots, plain_size}
 use Rattle.lat_ballots.proofs.Rows.{map-replicate}
-use Rattle.readings.proofs.Ranges.{range_more}
+use Rattle.lemmas.proofs.Ranges.{range_more}
 
 -- what stands in the rows when the ballots of the first n targets are there
 pub record AreBuilt (targets : ℕ) (rules : RuleSet) (n : ℕ) (rows : List (List Bool)) : Type 0 where

@@ -12,7 +12,7 @@ use Rattle.lat_base.specs.Rules.{is_blank}
 use Rattle.lat_base.specs.Shape.{target_count, first_target, contest_at, contest_of, CanOvervote}
 use Rattle.lat_base.specs.Tally.{is_marked, mark_count, is_overvoted, votes_for}
 use Rattle.readings.specs.Structural.{targets_of}
-use Rattle.readings.proofs.Counting.{count_alike, count_map}
+use Rattle.lemmas.proofs.Counting.{count_alike, count_map}
 use Rattle.readings.proofs.Marks.{marks_are}
 use Rattle.readings.proofs.Places.{nth_within}
 

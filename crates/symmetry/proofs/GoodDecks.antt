@@ -17,7 +17,7 @@ use Rattle.lat_base.specs.Rules.{RuleSet, Obeys, is_blank}
 use Rattle.readings.specs.Turn.{made, IsTurn}
 use Rattle.readings.specs.Structural.{IsStructural, relabelled}
 use Rattle.readings.proofs.Made.{made_is, made_long}
-use Rattle.readings.proofs.Counting.{count_alike, count_map}
+use Rattle.lemmas.proofs.Counting.{count_alike, count_map}
 use Rattle.readings.proofs.Grouped.{range_marks}
 use Rattle.readings.proofs.Over.{count_over}
 use Rattle.readings.proofs.Readings.{reading_long, reading_made, reading_identity}

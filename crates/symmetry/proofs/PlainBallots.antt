@@ -17,10 +17,10 @@ use Rattle.lat_base.specs.Shape.{target_count, first_target, contest_at, contest
 use Rattle.lat_base.specs.Tally.{is_marked, mark_count, is_overvoted, reading, votes_for, own_total}
 use Rattle.lat_ballots.specs.Plain.{only, only_ballots, plain_ballots}
 use Rattle.readings.specs.Structural.{targets_of}
-use Rattle.readings.proofs.Counting.{count_alike, count_map}
+use Rattle.lemmas.proofs.Counting.{count_alike, count_map}
 use Rattle.readings.proofs.Marks.{marks_are}
 use Rattle.readings.proofs.Places.{is_of, first_next}
-use Rattle.readings.proofs.Ranges.{one_in}
+use Rattle.lemmas.proofs.Ranges.{one_in}
 use Rattle.readings.proofs.Readings.{reading_identity}
 use Rattle.symmetry.proofs.Copies.{full, unmarked, copies_that, all_copies, no_copies, full_votes, unmarked_votes}
 
