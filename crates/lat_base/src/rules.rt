@@ -35,10 +35,10 @@ impl Model for Rules {
     ghost invariant = { λ a. IsRuleSet (rule_set a.distinct a.least a.blank a.over) };
 
     ghost inverse = { λ r. record {
-        distinct = r.distinct;
-        least = r.least;
-        blank = r.blank;
-        over = r.over;
+      distinct = r.distinct;
+      least = r.least;
+      blank = r.blank;
+      over = r.over;
     } };
 }
 

@@ -84,7 +84,7 @@ impl Shape {
 
     /// The style of contests that were tested already. The only error is want of memory.
     pub fn from_valid(alloc: Global, contests: Vec<Contest>) -> Result<Shape, AllocError>
-        requires { shape_fault contests.items ≡ None }
+        requires { IsShape contests.items }
         ensures { IfOk result (λ shape. shape ≡ contests.items) }
     {
         let firsts = first_targets(alloc, contests.as_slice())?;
