@@ -1,10 +1,9 @@
 use super::*;
 use cert_types::CertFault;
-use std::alloc::AllocGlobal;
-use std::test::{Abort, Fail};
+use std::test::Fail;
 
-// A style of one contest with one target; Least(2), a marked and a blank ballot, a robust tree of two
-// nodes, and a lower part of one ballot that Totals closes.
+// A style of one contest with one target; Least(2), a marked and a blank ballot, a robust tree of
+// two nodes, and a lower part of one ballot that Totals closes.
 const LEAST: &[u8] = b"LATCERT1\x01s\x00\x01\x01c\x00\x01\x00\x01\x01t\x01\x00\x01\x00\x01\x00\x01\
 \x01\x00\x02\x80\x00\x02\x00\x00\x00\x01\x01\x00\x01\x00\x00\x01\x02\x00\x00";
 
