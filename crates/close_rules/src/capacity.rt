@@ -18,7 +18,8 @@ fn count_above(state: &Partial, c: u16, votes: u16) -> u16
     state.level(c, votes)
 }
 
-// How many votes contest c can have in all: the first votes of its ballots, the second ones, and so on.
+// How many votes contest c can have in all: the first votes of its ballots, the second ones, and
+// so on.
 fn capacity(state: &Partial, c: u16) -> u32
     requires { c < length state.now.contests }
     ensures { result ≡ capacity state.now c }

@@ -11,7 +11,8 @@ use Rattle.deck_state.specs.Sheet.{count_of, vote}
 abbrev pub most_of : (limit : ℕ) → ContestCount → ℕ
 most_of limit count = if nat_lt limit count.marked then 0 else min limit count.possible
 
--- whether a ballot with these counts belongs to level v: below the limit, where it can give more than v
+-- whether a ballot with these counts belongs to level v: below the limit, where it can give more
+-- than v
 -- votes; at the limit, where it can be overvoted
 abbrev pub is_at : (limit v : ℕ) → ContestCount → Bool
 is_at limit v count =

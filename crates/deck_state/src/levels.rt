@@ -39,7 +39,8 @@ fn is_at(limit: u16, v: u16, count: ContestCount) -> bool
 fn alike_at(shape: &Shape, row: &[Mark], k: u16, c: u16, v: u16) -> u16
     requires contest { c < length shape.now }
     requires long { length row.now ≡ target_count shape.now }
-    ensures { result ≡ cond (is_at (contest_at shape.now c).limit v (count_of shape.now row.now c)) k 0 }
+    ensures { result
+        ≡ cond (is_at (contest_at shape.now c).limit v (count_of shape.now row.now c)) k 0 }
 {
     of_all(k, is_at(shape.contest(c).limit, v, count_in(shape, row, c)))
 }
