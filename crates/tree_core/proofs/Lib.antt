@@ -6,6 +6,7 @@ pub mod OneTree
 pub mod Each
 pub mod Holding
 pub mod Walks
+pub mod Stack
 pub mod Moves
 pub mod Below
 pub mod Empty

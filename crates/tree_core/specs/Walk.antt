@@ -1,10 +1,14 @@
 -- How a walk stands: the state at hand, the Forks on the way to it, and the states that are still to come.
-use Rattle.std.specs.Prelude.{◌≡◌, ℕ, suc, ◌+◌, Bool, true, false, Some, List, [], ◌∷◌, ◌++◌, slice_get}
+use Rattle.std.specs.Prelude.{◌≡◌, ℕ, suc, ◌+◌, Bool, true, false, Some, List, [], ◌∷◌, ◌++◌, slice_get, map}
 use Rattle.tree_core.specs.declared.node.Node.{Node}
 use Rattle.tree_core.specs.declared.node.Node.TheVariants.{Fork}
 use Rattle.tree_core.specs.declared.walk.Entry.{Entry}
 use Rattle.tree_core.specs.Steps.{Steps}
 use Rattle.tree_core.specs.Places.{kids_from, ahead}
+
+-- the places of the Forks on a way
+abbrev pub places_of : List Entry → List ℕ
+places_of way = map (λ entry. entry.node) way
 
 -- the state `here` is a kid of `s` under the Fork that the entry names; `left` more kids of it are to
 -- come, and then `rest`

@@ -73,6 +73,13 @@ impl<B: Drop, R: Drop> Tree<B, R> {
         picks.count() as u64
     }
 
+    /// A law: the nodes list exactly one tree. The call does nothing.
+    pub fn lists_a_tree(&self)
+        ensures { IsTree self.now }
+    {
+        let _nodes = self.nodes.len();
+    }
+
     /// The node of that number in preorder, from 0 on.
     pub fn node(&self, i: u64) -> &Node<B, R>
         requires { i < length self.now }
@@ -82,7 +89,7 @@ impl<B: Drop, R: Drop> Tree<B, R> {
     }
 
     /// The nodes in preorder, lent.
-    pub(crate) fn as_slice(&self) -> &[Node<B, R>]
+    pub fn as_slice(&self) -> &[Node<B, R>]
         ensures nodes { result.now ≡ self.now }
         ensures tree { IsTree result.now }
     {

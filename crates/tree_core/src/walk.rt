@@ -1,12 +1,12 @@
 ghost use Rattle.std.specs.Prelude.{◌≡◌, ◌<◌, ◌↔◌, ◌∷◌, ◌++◌, [], true, ℕ, List, Option, OnSome};
-ghost use Rattle.std.specs.Prelude.{IsNone, IfSome, IfNone, IfOk, OnErr, length, reverse, slice_get};
+ghost use Rattle.std.specs.Prelude.{IsNone, IfSome, IfNone, IfOk, OnOk, OnErr, take, length, reverse, slice_get};
 ghost use Rattle.std.specs.Prelude.{vec_len, vec_capacity};
 ghost use Rattle.tree_core.specs.declared.node.Node.{Node};
 ghost use Rattle.tree_core.specs.declared.walk.Entry.{Entry};
 ghost use Rattle.tree_core.specs.Steps.{IsKid};
 ghost use Rattle.tree_core.specs.Checks.{NodeHolds};
 ghost use Rattle.tree_core.specs.Places.{after};
-ghost use Rattle.tree_core.specs.Walk.{Stands, IsOnWay, Lands};
+ghost use Rattle.tree_core.specs.Walk.{Stands, IsOnWay, Lands, places_of};
 
 use crate::node::Node;
 use crate::space::Space;
@@ -51,10 +51,13 @@ pub fn next_place<S: Space>(
 ) -> bool
     requires { let steps = S.steps space.now in let own = S.is_own space.now in
         IsOnWay steps own nodes.now (reverse way.old.items) state.old }
-    ensures { let steps = S.steps space.now in let own = S.is_own space.now in
+    ensures lands { let steps = S.steps space.now in let own = S.is_own space.now in
         (root : S.State) (to_come : List S.State) →
         Stands steps own nodes.now root (reverse way.old.items) state.old to_come →
         Lands steps own nodes.now root (reverse way.new.items) state.new result to_come }
+
+    // The places on the way are the first ones of those before.
+    ensures places { places_of way.new.items ≡ take (length way.new.items) (places_of way.old.items) }
 {
     while let Some(entry) = go_up(space, state, way) {
         let Node::Fork(label, kids) = &nodes[entry.node] else {
@@ -95,6 +98,9 @@ pub fn go_on<S: Space>(
         slice_get nodes.now place ≡ Option.Some node →
         Lands steps own nodes.now root (reverse way.new.items) state.new found
         (after steps (state.old ∷ to_come) node)) }
+    // The places on the way are the first ones of those before and this one.
+    ensures places { OnOk result (places_of way.new.items ≡
+        take (length way.new.items) (places_of way.old.items ++ place ∷ [])) }
     ensures err_state { OnErr result (state.new ≡ state.old) }
     ensures err_way { OnErr result (way.new.items ≡ way.old.items) }
 {

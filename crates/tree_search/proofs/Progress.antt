@@ -18,6 +18,7 @@ use Rattle.tree_search.specs.declared.pick.Pick.{Pick}
 use Rattle.tree_search.specs.declared.pick.Pick.TheVariants as picks
 use Rattle.tree_search.specs.Habits.{Habits, KeepsHabits}
 use Rattle.tree_search.specs.Memory.{remembered, after_node, IsRelated, Follows}
+use Rattle.tree_core.proofs.Below.{stands_below}
 use Rattle.tree_search.specs.Outcome.{IsOpenTree, IsHalted}
 use Rattle.tree_search.specs.Turn.{IsPicked, opens, AddsOpen}
 use Rattle.tree_search.proofs.Opens.{each_opens, count-opened, remembered-opened}
@@ -99,6 +100,7 @@ module _ {S B R P W : Type 0} (steps : Steps S B R) (habits : Habits S B R P W) 
     -- with open nodes behind them they are an open tree
     pub opened_tree : IsTree new → IsOpenTree steps root picked new
     opened_tree tree = record {
+      lists = tree;
       checks = checks_from_each steps true root new tree
           (subst (λ ns. EachPlace steps root ns (λ _ s n. NodeHolds true steps s n)) (sym o.1)
           (each_opens steps (suc o.0) root old (λ _ s n. NodeHolds true steps s n) (λ _ s. refl) (λ i s n get state. weaken false steps s n (h.holds i s n get state))));
@@ -119,12 +121,13 @@ module _ {S B R P W : Type 0} (steps : Steps S B R) (habits : Habits S B R P W) 
 
     -- and what was said at the place behind them was said at the first open leaf
     pub opened_halted : (own : S → Type 0) (now : Habits S B R P W) (way : List Entry) (here : S) (why : W) → IsAt steps own root old way here → KeepsHabits habits now
-        → now.excuses here why → now.relation m here (picks.Halt why) → IsHalted steps habits root memory new why
+        → now.excuses here why → now.relation m here (picks.Halt why) → IsHalted steps own habits root memory new why
     opened_halted own now way here why at keeps excused related =
         let front : take (length old) new ≡ old = ap (take (length old)) o.1 ∙ take-append_seam old (opens (suc o.0)) in
         record {
           place = length old;
           state = here;
+          lies_below = stands_below steps own old root way here at.to_come at.stands;
           first = subst (λ ns. IsFirstOpen ns (length old)) (sym o.1) (first_open old o.0 h.all);
           at_place = ap (λ ns. slice_get (ahead steps (root ∷ []) ns) 0) front ∙ ap (λ (xs : List S). slice_get xs 0) at.walk;
           excused = (keeps.excuses here why).0 excused;

@@ -51,7 +51,8 @@ pub fn search<S: Space, C: Chooser<S>>(
         (tree : List (Node S.Label S.Reason)) (why : C.Why) →
         result ≡ Result.Ok (Outcome.Halted tree why) →
         (picked : ℕ) × (picked < budget) × IsOpenTree steps state.old picked tree ×
-        IsGapless tree × IsHalted steps habits state.old (C.memory chooser.old) tree why ×
+        IsGapless tree ×
+        IsHalted steps (S.is_own space.now) habits state.old (C.memory chooser.old) tree why ×
         (state.new ≡ state.old) }
 
     // At each place of a tree that is given the chooser's relation holds of the memory, the state

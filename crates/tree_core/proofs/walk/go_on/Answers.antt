@@ -2,6 +2,8 @@ use Rattle.std.proofs.Common.{arith, ◌≡◌, ℕ, sym, ◌∙◌}
 use Rattle.tree_core.specs.declared.node.Node.TheVariants.{Fork}
 use Rattle.tree_core.proofs.Lists.{read_node, node_is}
 use Rattle.tree_core.proofs.Walks.{to_first, no_kids, kids_are}
+use Rattle.tree_core.specs.Walk.{places_of}
+use Rattle.tree_core.proofs.Stack.{places_first, places_more}
 use Rattle.tree_core.proofs.walk.go_on.Goals as goal
 use Rattle.tree_core.proofs.walk.go_on.Goals.{in-Fork+else-kids-gt0, in_default}
 
@@ -28,4 +30,10 @@ returns-clause-ok g c = λ root to_come node h at.
       | in-Fork+else-kids-gt0 w ↦ λ l n e. let k = kids_are c.index-nodes-place.result _ _ _ _ (is ∙ e) w.in-Fork.is in omega (arith, k, w.if-kids-gt0.false)
       | in_default w ↦ λ l n e. absurd (w.in_default.not-Fork l n (is ∙ e))
     ] in
-    rw (no_kids (g.S.Space.steps c.args.space.now) (g.S.Space.is_own c.args.space.now) c.args.state.now to_come node none) (c.next_place.ensures root to_come h)
+    rw (no_kids (g.S.Space.steps c.args.space.now) (g.S.Space.is_own c.args.space.now) c.args.state.now to_come node none) (c.next_place.ensures.lands root to_come h)
+
+pub returns-then-kids-gt0-clause-places : goal.returns-then-kids-gt0-clause-places
+returns-then-kids-gt0-clause-places g c = places_first c.args.way.now.items c.push.new.self.items c.args.place 1 c.in_ok-push.ensures.items
+
+pub returns-clause-places : goal.returns-clause-places
+returns-clause-places g c = places_more c.args.way.now.items c.next_place.new.way.items c.args.place c.next_place.ensures.places
