@@ -24,7 +24,7 @@ use Rattle.tree_core.specs.declared.node.Node.{Node}
 use Rattle.tree_core.specs.declared.node.Node.TheVariants.{Fork}
 use Rattle.tree_core.specs.Checks.{ChecksWith, KidsCheckWith}
 use Rattle.tree_core.specs.Nodes.{is_pick}
-use Rattle.tree_core.specs.Reading.{IsTree, tree_of}
+use Rattle.tree_core.specs.Reading.{tree_of}
 use Rattle.tree_core.specs.Rose.{Rose, Closed, Forked, Opened, Roses, none, more, count, preorder, preorder_all}
 use Rattle.tree_search.specs.Outcome.{IsOpenTree}
 use Rattle.evade_space.specs.Trees.{factorial}
@@ -164,11 +164,11 @@ module _ (sought : Sought) where
         omega (arith, one, same, rest, both)
 
   -- an open tree over the misassignments of T targets has fewer than 3 T! Close and Fork nodes
-  pub open_attack_few : (budget : ℕ) (nodes : List (Node ℕ Skipped)) → IsEvadeState sought (start sought) → IsTree nodes → IsOpenTree (evade_steps sought) (start sought) budget nodes → budget < 3 * factorial (target_count sought.contests)
-  open_attack_few budget nodes own tree open_tree =
+  pub open_attack_few : (budget : ℕ) (nodes : List (Node ℕ Skipped)) → IsEvadeState sought (start sought) → IsOpenTree (evade_steps sought) (start sought) budget nodes → budget < 3 * factorial (target_count sought.contests)
+  open_attack_few budget nodes own open_tree =
       let bound = attack_few (tree_of nodes) (start sought) own open_tree.checks in
       let all : left (start sought) ≡ target_count sought.contests = omega (arith, length-replicate {A = Option ℕ} (target_count sought.contests) None) in
       let most = subst (λ (n : ℕ). count_by is_pick (preorder (tree_of nodes)) ≤ most_nodes n) all bound in
-      let same : count_by is_pick (preorder (tree_of nodes)) ≡ budget = ap (count_by is_pick) tree ∙ open_tree.count in
+      let same : count_by is_pick (preorder (tree_of nodes)) ≡ budget = ap (count_by is_pick) open_tree.lists ∙ open_tree.count in
       omega (arith, most, same, most_factorial (target_count sought.contests))
 
