@@ -89,7 +89,7 @@ twice_sum targets rules (suc n) =
     omega (arith, sum, last, here, twice_sum targets rules n, triangle_more n, product_more n (rules.least - 1))
 
 -- so many ballots are there in the end
-plain_long : (targets : ℕ) (rules : RuleSet) → length (plain_ballots targets rules).ballots ≡ plain_size targets rules
+pub plain_long : (targets : ℕ) (rules : RuleSet) → length (plain_ballots targets rules).ballots ≡ plain_size targets rules
 plain_long targets rules =
     let full = replicate rules.over (replicate targets true) in
     let each = flat_map (only_ballots targets rules) (range_with_len 0 targets) in
