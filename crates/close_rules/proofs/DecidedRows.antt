@@ -2,7 +2,7 @@
 use Rattle.std.proofs.Common.{◌≡◌, ◌≢◌, ◌+◌, ◌<◌, ◌&&◌, ℕ, suc, Bool, true, false, not, List, [], ◌∷◌, length, drop, get_or, cond, count_by, refl, ap, sym, ◌∙◌, arith, drop-cons}
 use Rattle.std.specs.List.{list_all}
 use Rattle.std.proofs.lemmas.List.Sums.{sum_by-cons}
-use Rattle.readings.proofs.Counting.{count_le}
+use Rattle.lemmas.proofs.Counting.{count_le}
 use Rattle.deck_state.specs.declared.mark.Mark.{Mark}
 use Rattle.deck_state.specs.declared.mark.Mark.TheVariants.{Marked, Unmarked, Undecided}
 use Rattle.deck_state.specs.Mark.{is_marked, may_be_marked, is_undecided}

@@ -9,7 +9,7 @@ use Rattle.lat_base.specs.Tally.{reading, votes_for, total, own_total}
 use Rattle.lat_base.specs.Tally as tally
 use Rattle.readings.specs.Structural.{targets_of}
 use Rattle.readings.proofs.Places.{is_of, first_le}
-use Rattle.readings.proofs.Counting.{count_alike}
+use Rattle.lemmas.proofs.Counting.{count_alike}
 use Rattle.readings.proofs.Readings.{reading_at, reading_long, reading_identity}
 use Rattle.readings.proofs.Reports.{same_report}
 use Rattle.readings.proofs.Turned.{apart_of}

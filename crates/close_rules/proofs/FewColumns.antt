@@ -7,7 +7,7 @@ use Rattle.std.proofs.lemmas.List.Elements.{All-cons, All-nil}
 use Rattle.std.proofs.lemmas.List.Sums.{sum_by-cons}
 use Rattle.std.proofs.lemmas.Bool.{cases_lt, and_parts, not-true, le-ltb}
 use Rattle.lat_base.specs.Tally.{is_marked}
-use Rattle.readings.proofs.Counting.{split_count}
+use Rattle.lemmas.proofs.Counting.{split_count}
 
 -- eight ballots have a column for each target
 pub many_columns : (k n : ℕ) → 8 ≤ k → n ≤ 256 → nat_lt k 8 ≡ nat_lt (2 ^ k) n

@@ -3,7 +3,7 @@ use Rattle.std.proofs.Common.{◌≡◌, ◌+◌, ◌<◌, ◌≤◌, ℕ, zero,
 use Rattle.std.specs.List.{range_with_len, sum, sum_by, AllByRecursion}
 use Rattle.std.proofs.lemmas.Bool.Decides.{nat_tests}
 use Rattle.std.proofs.lemmas.List.Sums.{sum_by-cons}
-use Rattle.readings.proofs.Ranges.{sum_more}
+use Rattle.lemmas.proofs.Ranges.{sum_more}
 
 -- how many numbers are above a level
 abbrev pub count_above : ℕ → List ℕ → ℕ

@@ -11,7 +11,7 @@ use Rattle.lat_base.specs.Tally.{mark_count, votes_for, reading, own_total, tota
 use Rattle.lat_base.specs.Tally as tally
 use Rattle.deck_state.proofs.Seen.{byte_is}
 use Rattle.lat_misassign.specs.Sources.{AreSources}
-use Rattle.readings.proofs.Counting.{count_map}
+use Rattle.lemmas.proofs.Counting.{count_map}
 use Rattle.readings.proofs.Grouped.{slice_more}
 use Rattle.readings.proofs.Readings.{reading_at, reading_long}
 use Rattle.readings.proofs.Within.{source_within}

@@ -9,7 +9,7 @@ use Rattle.std.proofs.lemmas.Bool.{lt-ltb, ltb-false}
 use Rattle.lat_base.specs.Shape.{contest_at}
 use Rattle.lat_base.specs.Tally.{is_overvoted}
 use Rattle.lat_base.specs.Rules.{is_blank}
-use Rattle.readings.proofs.Counting.{count_alike, count_map}
+use Rattle.lemmas.proofs.Counting.{count_alike, count_map}
 use Rattle.deck_state.specs.declared.mark.Mark.{Mark}
 use Rattle.deck_state.specs.declared.mark.Mark.TheVariants.{Marked, Unmarked, Undecided}
 use Rattle.deck_state.specs.Mark.{is_marked, is_undecided}

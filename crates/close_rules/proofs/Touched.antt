@@ -10,7 +10,7 @@ use Rattle.lat_base.specs.Tally.{mark_count, votes_for}
 use Rattle.lat_base.specs.Tally as tally
 use Rattle.readings.specs.Structural.{targets_of}
 use Rattle.readings.proofs.Places.{is_of, contest_is, nth_is_of, first_next, first_le}
-use Rattle.readings.proofs.Counting.{count_alike, count_map}
+use Rattle.lemmas.proofs.Counting.{count_alike, count_map}
 use Rattle.readings.proofs.Marks.{marks_are}
 use Rattle.deck_state.specs.PartialDeck.{PartialDeck}
 use Rattle.close_rules.specs.Evading.{stays, keeps_totals, is_left, keeps_contest, is_misassignment, evades}

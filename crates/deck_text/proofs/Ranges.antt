@@ -2,7 +2,7 @@
 use Rattle.std.proofs.Common.{◌≡◌, ◌+◌, ◌++◌, ℕ, List, ap, sym, ◌∙◌}
 use Rattle.std.specs.List.{flat_map, range_with_len}
 use Rattle.std.proofs.lemmas.List.{flat_map_more}
-use Rattle.readings.proofs.Ranges.{range_more}
+use Rattle.lemmas.proofs.Ranges.{range_more}
 
 -- the piece of the next number
 pub lines_more : (f : ℕ → List ℕ) (text : List ℕ) (n : ℕ)

@@ -1,5 +1,4 @@
 pub mod Lists
-pub mod RuleFacts
 pub mod Chosen
 pub mod Steps
 pub mod ContestLimits
@@ -7,5 +6,4 @@ pub mod KeptFacts
 pub mod StyleLimits
 pub mod Text
 pub mod NamesOnce
-pub mod ShapeSound
 pub mod StylePlace

@@ -9,20 +9,20 @@ ghost use Rattle.election_json.specs.Limits.{AreContests};
 
 use crate::contest_entry::ContestEntry;
 use crate::contest_table::ContestTable;
-use crate::id_list::IdList;
 use crate::id_set::IdSet;
 use crate::member::{array, member, new_id, number, object};
 use crate::{DefFail, Place};
+use lat_base::Names0;
 use serde_json::Value;
 use std::alloc::Global;
 
 // The ids of the targets of contest number `i`.
 #[tactic(auto, unfolding(crate::specs::Entry::each_from))]
-fn targets_of(alloc: Global, i: u32, values: &[Value]) -> Result<IdList, DefFail>
+fn targets_of(alloc: Global, i: u32, values: &[Value]) -> Result<Names0, DefFail>
     requires { length values.now ≤ 64 }
     ensures { Gives (λ ids. ids) result (each (target_entry i) (map view values.now)) }
 {
-    let mut ids = IdList::new(alloc);
+    let mut ids = Names0::new(alloc);
     let mut earlier = IdSet::new(alloc);
     for (j, value) in values.iter().enumerate() {
         let place = Place::Target(i, j as u32);

@@ -7,7 +7,6 @@ mod contest_table;
 mod contests;
 mod definition;
 mod fault;
-mod id_list;
 mod id_set;
 mod member;
 mod place;

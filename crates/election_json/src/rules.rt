@@ -20,8 +20,5 @@ pub fn rules_of(top: &Value) -> Result<Rules, DefFail>
     let least = number(member(rules, "least", Place::Least)?, 0, 64, Place::Least)?;
     let blank = number(member(rules, "blank", Place::Blank)?, 0, 16, Place::Blank)?;
     let over = number(member(rules, "over", Place::Over)?, 0, 16, Place::Over)?;
-    match Rules::new(distinct, least as u16, blank as u16, over as u16) {
-        Ok(rules) => Ok(rules),
-        Err(_) => unreachable!(),
-    }
+    Ok(Rules::from_valid(distinct, least as u16, blank as u16, over as u16))
 }

@@ -9,25 +9,15 @@ ghost use Rattle.election_json.specs.Kept.{kept_style, IsWithin};
 use crate::contest_entry::ContestEntry;
 use crate::contest_table::ContestTable;
 use crate::style_entry::StyleEntry;
-use lat_base::{Id, IdFault, NameFault, Names, Names0};
+use lat_base::{Id, Names, Names0};
 use std::alloc::{AllocError, Global};
-
-fn copy_id(alloc: Global, id: &Id) -> Result<Id, AllocError>
-    ensures { IfOk result (λ copy. copy ≡ id.now) }
-{
-    match Id::new(alloc, id.as_bytes()) {
-        Ok(copy) => Ok(copy),
-        Err(IdFault::Memory) => Err(AllocError),
-        Err(IdFault::Bad) => unreachable!(),
-    }
-}
 
 fn copy_ids(alloc: Global, ids: &[Id]) -> Result<Names0, AllocError>
     ensures { IfOk result (λ copy. copy ≡ ids.now) }
 {
     let mut copy = Names0::new(alloc);
     for id in ids {
-        copy.push(copy_id(alloc, id)?)?;
+        copy.push(id.copy(alloc)?)?;
     }
     Ok(copy)
 }
@@ -35,15 +25,12 @@ fn copy_ids(alloc: Global, ids: &[Id]) -> Result<Names0, AllocError>
 // Adds the names of a contest.
 fn add_contest(alloc: Global, names: &mut Names, contest: &ContestEntry) -> Result<(), AllocError>
     requires { is_repeated names.old.contests contest.now.id contest.now.targets ≡ false }
-    ensures { OnOk result (names.new ≡ record names.old { contests = names.old.contests ++ contest_names contest.now ∷ [] }) }
+    ensures { OnOk result (names.new ≡
+        record names.old { contests = names.old.contests ++ contest_names contest.now ∷ [] }) }
 {
-    let id = copy_id(alloc, &contest.id)?;
+    let id = contest.id.copy(alloc)?;
     let targets = copy_ids(alloc, contest.targets.as_slice())?;
-    match names.add(id, targets) {
-        Ok(()) => Ok(()),
-        Err(NameFault::Memory) => Err(AllocError),
-        Err(NameFault::Repeated) => unreachable!(),
-    }
+    names.add_valid(id, targets)
 }
 
 /// The names of a style.
@@ -56,7 +43,7 @@ pub fn names_of(
     requires style { IsStyle (kept_style contests.now style.now) }
     ensures { IfOk result (λ names. names ≡ (kept_style contests.now style.now).names) }
 {
-    let mut names = Names::new(alloc, copy_id(alloc, &style.id)?);
+    let mut names = Names::new(alloc, style.id.copy(alloc)?);
     for number in &style.contests {
         add_contest(alloc, &mut names, contests.entry(*number))?;
     }

@@ -7,7 +7,7 @@ ghost use Rattle.election_json.specs.Kept.{entry_at, kept_style, AreWithin, IsWi
 
 use crate::contest_table::ContestTable;
 use crate::style_entry::StyleEntry;
-use lat_base::{Contest, Shape, ShapeFault};
+use lat_base::{Contest, Shape};
 use std::alloc::{AllocError, Global};
 
 // The limits and numbers of targets of these contests.
@@ -17,7 +17,8 @@ fn contest_shapes(
     chosen: &[u32],
 ) -> Result<Vec<Contest>, AllocError>
     requires { AreWithin contests.now chosen.now }
-    ensures { IfOk result (λ shapes. shapes.items ≡ map contest_shape (map (entry_at contests.now) chosen.now)) }
+    ensures { IfOk result (λ shapes.
+        shapes.items ≡ map contest_shape (map (entry_at contests.now) chosen.now)) }
 {
     let mut shapes = Vec::new(alloc);
     for number in chosen {
@@ -30,7 +31,6 @@ fn contest_shapes(
 }
 
 /// The shape of a style.
-#[tactic(auto, using(crate::proofs::ShapeSound::no_shape_fault))]
 pub fn shape_of(
     alloc: Global,
     contests: &ContestTable,
@@ -41,11 +41,5 @@ pub fn shape_of(
     ensures { IfOk result (λ shape. shape ≡ (kept_style contests.now style.now).shape) }
 {
     let contests = contest_shapes(alloc, contests, style.contests.as_slice())?;
-    match Shape::new(alloc, contests.as_slice()) {
-        Ok(shape) => Ok(shape),
-        Err(fault) => match fault {
-            ShapeFault::Memory => Err(AllocError),
-            _ => unreachable!(),
-        },
-    }
+    Shape::from_valid(alloc, contests)
 }

@@ -9,7 +9,7 @@ use Rattle.lat_base.specs.Deck.{Fits}
 use Rattle.lat_base.specs.Shape.{target_count, first_target, contest_of}
 use Rattle.evade_space.specs.Counts.{taken_in, free_in}
 use Rattle.lat_base.specs.Tally.{is_marked, is_overvoted}
-use Rattle.readings.proofs.Counting.{count_alike, none_pass, range_le_all}
+use Rattle.lemmas.proofs.Counting.{count_alike, none_pass, range_le_all}
 use Rattle.evade_space.specs.Sources.{source_at}
 use Rattle.evade_space.specs.Seen.{is_seen, seen, taken, free_marks, most_marks}
 use Rattle.evade_space.specs.Votes.{may_vote_on, may_vote, must_vote_on, must_vote}

@@ -17,9 +17,9 @@ use Rattle.lat_base.specs.Misassignment.{identity}
 use Rattle.lat_base.specs.Rules.{RuleSet}
 use Rattle.lat_ballots.specs.Plain.{only, only_ballots, plain_ballots}
 use Rattle.lat_misassign.proofs.Identity.{identity_is}
-use Rattle.readings.proofs.Counting.{count_alike, count_map, count_le, none_pass, range_le_all}
+use Rattle.lemmas.proofs.Counting.{count_alike, count_map, count_le, none_pass, range_le_all}
 use Rattle.readings.proofs.Places.{is_of, first_le, first_next}
-use Rattle.readings.proofs.Ranges.{range_more, one_in}
+use Rattle.lemmas.proofs.Ranges.{range_more, one_in}
 use Rattle.readings.proofs.Readings.{reading_identity}
 use Rattle.evade_space.specs.Sources.{source_at, is_that, is_free, is_used, with_source, given_places, empty_places}
 use Rattle.evade_space.specs.Seen.{is_seen, seen, taken, is_free_mark, free_marks}

@@ -10,8 +10,8 @@ use Rattle.std.proofs.lemmas.Nat.{and_le_l}
 use Rattle.std.proofs.lemmas.List.FromFn.{get_or-map-range_with_len, length-map-range_with_len, length-range_with_len}
 use Rattle.std.proofs.lemmas.List.Sums.{count_by-le-length}
 use Rattle.std.proofs.Math.Bool.{and-false}
-use Rattle.readings.proofs.Ranges.{count_more, count_same}
-use Rattle.readings.proofs.Counting.{none_pass}
+use Rattle.lemmas.proofs.Ranges.{count_more, count_same}
+use Rattle.lemmas.proofs.Counting.{none_pass}
 use Rattle.lat_ballots.specs.Row.{bits_of, is_common, common_count}
 use Rattle.lat_ballots.specs.Deck.{AreRows}
 use Rattle.lat_ballots.proofs.OneBit.{get_or-bits_of, length-bits_of}

@@ -13,7 +13,7 @@ use Rattle.lat_base.specs.Rules.{RuleSet}
 use Rattle.lat_ballots.specs.Deck.{Ballots, AreRows, ballots_of}
 use Rattle.lat_ballots.specs.Plain.{only, only_ballots, plain_ballots, plain_size}
 use Rattle.lat_ballots.proofs.Rows.{map-replicate}
-use Rattle.readings.proofs.Ranges.{range_more}
+use Rattle.lemmas.proofs.Ranges.{range_more}
 
 -- what stands in the rows when the ballots of the first n targets are there
 pub record AreBuilt (targets : ℕ) (rules : RuleSet) (n : ℕ) (rows : List (List Bool)) : Type 0 where
@@ -130,3 +130,20 @@ built_rows targets n t k rules rows new row few e end built is count whole fits 
       },
       ap (λ (m : ℕ). ballots_of m new) e ∙ deck,
     )
+
+-- each ballot has a mark or none for each target
+pub plain_fits : (targets : ℕ) (rules : RuleSet) → All (λ (b : List Bool). length b ≡ targets) (plain_ballots targets rules).ballots
+plain_fits targets rules =
+    All-append (λ (b : List Bool). length b ≡ targets) (replicate rules.over (replicate targets true) ++ flat_map (only_ballots targets rules) (range_with_len 0 targets)) (replicate rules.blank (replicate targets false))
+    (All-append (λ (b : List Bool). length b ≡ targets) (replicate rules.over (replicate targets true)) (flat_map (only_ballots targets rules) (range_with_len 0 targets))
+    (All-replicate (λ (b : List Bool). length b ≡ targets) rules.over (replicate targets true) (length-replicate targets true)) (runs (range_with_len 0 targets)))
+    (All-replicate (λ (b : List Bool). length b ≡ targets) rules.blank (replicate targets false) (length-replicate targets false))
+  where
+    All-nil : All (λ (b : List Bool). length b ≡ targets) []
+    All-nil i d lt = absurd (omega arith)
+
+    runs : (ts : List ℕ) → All (λ (b : List Bool). length b ≡ targets) (flat_map (only_ballots targets rules) ts)
+    runs [] = All-nil
+    runs (t ∷ ts) =
+        All-append (λ (b : List Bool). length b ≡ targets) (only_ballots targets rules t) (flat_map (only_ballots targets rules) ts)
+        (All-replicate (λ (b : List Bool). length b ≡ targets) (t + 1 + (rules.least - 1)) (only targets t) (length-set (replicate targets false) t true ∙ length-replicate targets false)) (runs ts)

@@ -1,5 +1,5 @@
 -- The names of a style, its contests and their targets.
-use Rattle.std.specs.Prelude.{◌≡◌, ◌||◌, ◌<◌, ℕ, Bool, false, List, [], ◌∷◌, length, get_or, map, All}
+use Rattle.std.specs.Prelude.{◌≡◌, ◌||◌, ◌<◌, ◌++◌, ℕ, Bool, false, List, [], ◌∷◌, length, get_or, map, All}
 use Rattle.std.specs.List.{list_any}
 use Rattle.std.specs.Str.{bytes_eq}
 use Rattle.lat_base.specs.declared.contest.Contest.{Contest}
@@ -10,6 +10,11 @@ use Rattle.lat_base.specs.Shape.{contest_at}
 pub record StyleNames : Type 0 where
   pub style : List ℕ
   pub contests : List ContestNames
+
+-- the names with those of one more contest at the end
+abbrev pub with_contest : StyleNames → List ℕ → List (List ℕ) → StyleNames
+with_contest names id targets =
+    record names { contests = names.contests ++ record { id = id; targets = targets } ∷ [] }
 
 -- whether an id stands twice
 abbrev pub has_twice : List (List ℕ) → Bool
@@ -39,4 +44,5 @@ is_repeated contests id targets = list_any (λ c. bytes_eq id c.id) contests || 
 -- names for as many contests as a style has, and for as many targets in each
 pub record NamesFit (names : List ContestNames) (contests : List Contest) : Type 0 where
   pub count : length names ≡ length contests
-  pub targets : (c : ℕ) → c < length contests → length (names_at names c).targets ≡ (contest_at contests c).targets
+  pub targets : (c : ℕ) → c < length contests
+      → length (names_at names c).targets ≡ (contest_at contests c).targets

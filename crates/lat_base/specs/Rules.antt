@@ -13,6 +13,10 @@ pub record RuleSet : Type 0 where
   pub blank : ℕ
   pub over : ℕ
 
+abbrev pub rule_set : Bool → ℕ → ℕ → ℕ → RuleSet
+rule_set distinct least blank over =
+    record { distinct = distinct; least = least; blank = blank; over = over }
+
 -- the limits on the rules' numbers
 pub record IsRuleSet (rules : RuleSet) : Type 0 where
   pub least : rules.least ≤ 64
@@ -28,11 +32,14 @@ pub record Obeys (contests : List Contest) (rules : RuleSet) (deck : List (List 
   -- enough ballots are blank
   pub blank : rules.blank ≤ count_by is_blank deck
   -- each contest that can be overvoted is overvoted on enough ballots
-  pub over : (c : ℕ) → c < length contests → CanOvervote (contest_at contests c) → rules.over ≤ count_by (λ ballot. is_overvoted contests ballot c) deck
+  pub over : (c : ℕ) → c < length contests → CanOvervote (contest_at contests c)
+      → rules.over ≤ count_by (λ ballot. is_overvoted contests ballot c) deck
   -- each target has enough votes
   pub least : (t : ℕ) → t < target_count contests → rules.least ≤ own_total contests deck t
   -- where the rules say so, different targets of one contest have different totals
-  pub distinct : IsTrue rules.distinct → (t u : ℕ) → t < u → u < target_count contests → contest_of contests t ≡ contest_of contests u → own_total contests deck t ≢ own_total contests deck u
+  pub distinct : IsTrue rules.distinct → (t u : ℕ) → t < u → u < target_count contests
+      → contest_of contests t ≡ contest_of contests u
+      → own_total contests deck t ≢ own_total contests deck u
 
 -- the first number that is above its limit
 abbrev pub rule_fault : RuleSet → Option RuleFault

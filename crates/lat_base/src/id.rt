@@ -2,7 +2,8 @@ ghost use Rattle.std.specs.Prelude.{◌≡◌, ◌↔◌, IfOk, OnOk, Err, IsTru
 ghost use Rattle.std.specs.List.{list_all};
 ghost use Rattle.lat_base.specs.Id.{is_id, is_id_byte};
 
-use std::alloc::Global;
+use crate::MOST_ID_BYTES;
+use std::alloc::{AllocError, Global};
 use std::marker::Model;
 use thiserror::Error;
 
@@ -16,7 +17,8 @@ pub enum IdFault {
     Memory,
 }
 
-/// The id of a style, a contest or a target: 1 to 64 ASCII letters, digits, dots, underscores and dashes.
+/// The id of a style, a contest or a target: 1 to 64 ASCII letters, digits, dots, underscores and
+/// dashes.
 #[derive(Debug, Drop)]
 pub struct Id {
     bytes: Vec<u8>,
@@ -50,7 +52,7 @@ fn are_id_bytes(text: &[u8]) -> bool
 pub fn is_id(text: &[u8]) -> bool
     ensures { result ≡ is_id text.now }
 {
-    !text.is_empty() && text.len() <= 64 && are_id_bytes(text)
+    !text.is_empty() && text.len() <= usize::from(MOST_ID_BYTES) && are_id_bytes(text)
 }
 
 impl Id {
@@ -67,6 +69,14 @@ impl Id {
             Ok(bytes) => Ok(Id { bytes }),
             Err(_) => Err(IdFault::Memory),
         }
+    }
+
+    /// An equal id. The only error is want of memory.
+    pub fn copy(&self, alloc: Global) -> Result<Id, AllocError>
+        ensures { IfOk result (λ id. id ≡ self.now) }
+    {
+        let bytes = Vec::from_slice(alloc, self.bytes.as_slice())?;
+        Ok(Id { bytes })
     }
 
     /// The bytes of the id.

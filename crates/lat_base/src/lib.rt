@@ -5,6 +5,7 @@
 mod contest;
 mod contest_names;
 mod id;
+mod limits;
 mod names;
 mod names0;
 mod rules;
@@ -15,6 +16,10 @@ mod worked;
 pub use contest::Contest;
 pub use contest_names::ContestNames;
 pub use id::{Id, IdFault, is_id};
+pub use limits::{
+    MOST_BALLOTS, MOST_BLANK, MOST_CONTESTS, MOST_ID_BYTES, MOST_IN_CONTEST, MOST_LEAST, MOST_OVER,
+    MOST_TARGETS, MOST_VOTES,
+};
 pub use names::{NameFault, Names};
 pub use names0::Names0;
 pub use rules::{RuleFault, Rules};

@@ -1,10 +1,10 @@
-ghost use Rattle.std.specs.Prelude.{◌≡◌, ◌<◌, ◌↔◌, ◌++◌, ◌∷◌, [], true, length, get_or, OnOk, OnErr, Err, IsTrue};
+ghost use Rattle.std.specs.Prelude.{◌≡◌, ◌<◌, ◌↔◌, [], true, false, length, get_or, OnOk, OnErr, Err, IsTrue};
 ghost use Rattle.std.specs.List.{list_any};
 ghost use Rattle.std.specs.Str.{bytes_eq};
-ghost use Rattle.lat_base.specs.Names.{names_at, is_repeated, NamesFit};
+ghost use Rattle.lat_base.specs.Names.{names_at, with_contest, is_repeated, NamesFit};
 
 use crate::{ContestNames, Id, Names0, Shape};
-use std::alloc::Global;
+use std::alloc::{AllocError, Global};
 use std::marker::Model;
 use thiserror::Error;
 
@@ -62,19 +62,30 @@ impl Names {
 
     /// Adds a contest's ids at the end; `Repeated` exactly where its id is there or a target's id
     /// stands twice.
-    #[tactic(auto, using(crate::proofs::NamesFacts::names_more))]
     pub fn add(&mut self, id: Id, targets: Names0) -> Result<(), NameFault>
-        ensures ok { OnOk result (self.new ≡ record self.old { contests = self.old.contests ++ record { id = id; targets = targets } ∷ [] }) }
-        ensures repeated { (result ≡ Err NameFault.Repeated) ↔ (is_repeated self.old.contests id targets ≡ true) }
+        ensures ok { OnOk result (self.new ≡ with_contest self.old id targets) }
+        ensures repeated { (result ≡ Err NameFault.Repeated) ↔
+            (is_repeated self.old.contests id targets ≡ true) }
         ensures err { OnErr result (self.new ≡ self.old) }
     {
         if is_repeated(&self.contests, id.as_bytes(), &targets) {
             return Err(NameFault::Repeated);
         }
-        if self.contests.push(ContestNames { id, targets }).is_err() {
+        if self.add_valid(id, targets).is_err() {
             return Err(NameFault::Memory);
         }
         Ok(())
+    }
+
+    /// Adds a contest's ids at the end, which were tested already. The only error is want of memory;
+    /// the names are then as before.
+    #[tactic(auto, using(crate::proofs::NamesFacts::names_more))]
+    pub fn add_valid(&mut self, id: Id, targets: Names0) -> Result<(), AllocError>
+        requires { is_repeated self.old.contests id targets ≡ false }
+        ensures ok { OnOk result (self.new ≡ with_contest self.old id targets) }
+        ensures err { OnErr result (self.new ≡ self.old) }
+    {
+        Ok(self.contests.push(ContestNames { id, targets })?)
     }
 
     /// The style's id.

@@ -1,6 +1,7 @@
 ghost use Rattle.std.specs.Prelude.{◌≡◌, ◌<◌, ◌≤◌, ◌↔◌, IfOk, Err, Some, None};
-ghost use Rattle.lat_base.specs.Rules.{RuleSet, IsRuleSet, rule_fault};
+ghost use Rattle.lat_base.specs.Rules.{rule_set, IsRuleSet, rule_fault};
 
+use crate::{MOST_BLANK, MOST_LEAST, MOST_OVER};
 use std::marker::Model;
 use thiserror::Error;
 
@@ -25,30 +26,36 @@ pub struct Rules {
 }
 
 impl Model for Rules {
-    ghost use Rattle.lat_base.specs.Rules.{RuleSet, IsRuleSet};
+    ghost use Rattle.lat_base.specs.Rules.{RuleSet, IsRuleSet, rule_set};
 
     ghost Value = { RuleSet };
 
-    ghost view = { λ a. record { distinct = a.distinct; least = a.least; blank = a.blank; over = a.over } };
+    ghost view = { λ a. rule_set a.distinct a.least a.blank a.over };
 
-    ghost invariant = { λ a. IsRuleSet (record { distinct = a.distinct; least = a.least; blank = a.blank; over = a.over }) };
+    ghost invariant = { λ a. IsRuleSet (rule_set a.distinct a.least a.blank a.over) };
 
-    ghost inverse = { λ r. record { distinct = r.distinct; least = r.least; blank = r.blank; over = r.over } };
+    ghost inverse = { λ r. record {
+      distinct = r.distinct;
+      least = r.least;
+      blank = r.blank;
+      over = r.over;
+    } };
 }
 
 impl Rules {
     /// The rules of these numbers, or the first of them that is above its limit.
     pub fn new(distinct: bool, least: u16, blank: u16, over: u16) -> Result<Rules, RuleFault>
-        ensures ok { IfOk result (λ r. (r ≡ record { distinct = distinct; least = least; blank = blank; over = over }) × IsRuleSet r) }
-        ensures fault { (f : RuleFault) → (result ≡ Err f) ↔ (rule_fault (record { distinct = distinct; least = least; blank = blank; over = over }) ≡ Some f) }
+        ensures ok { IfOk result (λ r. (r ≡ rule_set distinct least blank over) × IsRuleSet r) }
+        ensures fault { (f : RuleFault) →
+            (result ≡ Err f) ↔ (rule_fault (rule_set distinct least blank over) ≡ Some f) }
     {
-        if least > 64 {
+        if least > MOST_LEAST {
             return Err(RuleFault::BadLeast(least));
         }
-        if blank > 16 {
+        if blank > MOST_BLANK {
             return Err(RuleFault::BadBlank(blank));
         }
-        if over > 16 {
+        if over > MOST_OVER {
             return Err(RuleFault::BadOver(over));
         }
         Ok(Rules {
@@ -57,6 +64,19 @@ impl Rules {
             blank,
             over,
         })
+    }
+
+    /// The rules of these numbers, which were tested already.
+    pub fn from_valid(distinct: bool, least: u16, blank: u16, over: u16) -> Rules
+        requires { IsRuleSet (rule_set distinct least blank over) }
+        ensures { result ≡ rule_set distinct least blank over }
+    {
+        Rules {
+            distinct,
+            least,
+            blank,
+            over,
+        }
     }
 
     /// Whether different targets of one contest must have different totals.

@@ -3,7 +3,7 @@ ghost use Rattle.lat_base.specs.Shape.{target_count, first_target, contest_at, c
 ghost use Rattle.lat_base.specs.ShapeFault.{shape_fault};
 
 use crate::shape_fault::{count_targets, find_contest_fault};
-use crate::{Contest, ShapeFault};
+use crate::{Contest, MOST_CONTESTS, MOST_TARGETS, ShapeFault};
 use std::alloc::{AllocError, Global};
 use std::marker::Model;
 
@@ -52,34 +52,42 @@ impl Shape {
         requires { length contests.now < 2 ^ 32 }
         ensures ok { IfOk result (λ shape. shape ≡ contests.now) }
         ensures sound { OnOk result (shape_fault contests.now ≡ None) }
-        ensures fault { (f : ShapeFault) → f ≢ ShapeFault.Memory → (result ≡ Err f) ↔ (shape_fault contests.now ≡ Some f) }
+        ensures fault { (f : ShapeFault) → f ≢ ShapeFault.Memory →
+            (result ≡ Err f) ↔ (shape_fault contests.now ≡ Some f) }
     {
         if contests.is_empty() {
             return Err(ShapeFault::Empty);
         }
-        if contests.len() > 128 {
+        if contests.len() > usize::from(MOST_CONTESTS) {
             return Err(ShapeFault::TooManyContests(contests.len() as u32));
         }
         if let Some(fault) = find_contest_fault(contests) {
             return Err(fault);
         }
         let targets = count_targets(contests);
-        if targets > 256 {
+        if targets > u32::from(MOST_TARGETS) {
             return Err(ShapeFault::TooManyTargets(targets));
         }
-        match Shape::of_sound(alloc, contests) {
+        match Shape::copied(alloc, contests) {
             Ok(shape) => Ok(shape),
             Err(_) => Err(ShapeFault::Memory),
         }
     }
 
-    // The style of contests that have no fault.
-    fn of_sound(alloc: Global, contests: &[Contest]) -> Result<Shape, AllocError>
+    // The style of contests that have no fault, which are copied.
+    fn copied(alloc: Global, contests: &[Contest]) -> Result<Shape, AllocError>
         requires { shape_fault contests.now ≡ None }
         ensures { IfOk result (λ shape. shape ≡ contests.now) }
     {
-        let firsts = first_targets(alloc, contests)?;
-        let contests = Vec::from_slice(alloc, contests)?;
+        Shape::from_valid(alloc, Vec::from_slice(alloc, contests)?)
+    }
+
+    /// The style of contests that were tested already. The only error is want of memory.
+    pub fn from_valid(alloc: Global, contests: Vec<Contest>) -> Result<Shape, AllocError>
+        requires { IsShape contests.items }
+        ensures { IfOk result (λ shape. shape ≡ contests.items) }
+    {
+        let firsts = first_targets(alloc, contests.as_slice())?;
         Ok(Shape { contests, firsts })
     }
 
@@ -102,7 +110,6 @@ impl Shape {
     }
 
     /// How many targets there are in all.
-
     pub fn targets(&self) -> u16
         ensures count { result ≡ target_count self.now }
         ensures some { 1 ≤ result }

@@ -2,7 +2,7 @@
 use Rattle.std.proofs.Common.{◌≡◌, ◌≤◌, ◌<◌, ◌+◌, ℕ, zero, suc, Bool, true, false, List, count_by, refl, ap, ◌∙◌, arith}
 use Rattle.std.specs.Prelude.{◌==◌, nat_lt}
 use Rattle.std.proofs.lemmas.Bool.Decides.{nat_tests}
-use Rattle.readings.proofs.Below.{one_more, none_below}
+use Rattle.lemmas.proofs.Below.{one_more, none_below}
 
 -- how often t stands
 abbrev pub count_of : ℕ → List ℕ → ℕ

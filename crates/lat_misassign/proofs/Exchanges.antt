@@ -12,7 +12,7 @@ use Rattle.lat_base.specs.Shape.{target_count, first_target, contest_at}
 use Rattle.lat_base.specs.Misassignment.{IsMisassignment}
 use Rattle.readings.proofs.Places.{first_next}
 use Rattle.lat_misassign.specs.Sources.{AreSources, exchanged, contests_exchanged}
-use Rattle.readings.proofs.Ranges.{one_in}
+use Rattle.lemmas.proofs.Ranges.{one_in}
 
 -- the numbers that f takes to t, where f is its own inverse
 counted : (f : ℕ → ℕ) → ((u : ℕ) → f (f u) ≡ u) → (t a n : ℕ) → count_by (λ x. x == t) (map f (range_with_len a n)) ≡ count_by (λ x. x == f t) (range_with_len a n)

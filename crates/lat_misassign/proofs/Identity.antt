@@ -5,7 +5,7 @@ use Rattle.std.proofs.lemmas.List.{ext_get_or}
 use Rattle.lat_base.specs.Misassignment.{IsMisassignment, identity}
 use Rattle.readings.proofs.Made.{identity_at}
 use Rattle.lat_misassign.specs.Sources.{AreSources}
-use Rattle.readings.proofs.Ranges.{one_in}
+use Rattle.lemmas.proofs.Ranges.{one_in}
 
 pub identity_long : (n : ℕ) → length (identity n) ≡ n
 identity_long n = length-range_with_len 0 n

@@ -47,7 +47,7 @@ fn find_fault(sources: &[u16]) -> Option<MisFault>
 
 impl Misassignment {
     /// The identity of `n` targets: each target counts for itself.
-    #[tactic(auto, using(crate::proofs::Identity::identity_sources, readings::proofs::Ranges::range_more))]
+    #[tactic(auto, using(crate::proofs::Identity::identity_sources, lemmas::proofs::Ranges::range_more))]
     pub fn identity(alloc: Global, n: u16) -> Result<Misassignment, AllocError>
         requires some { 1 ≤ n }
         requires few { n ≤ 256 }
@@ -103,7 +103,7 @@ impl Misassignment {
 
     /// The exchange of the contests `c` and `d` of a style, which have as many targets: each target
     /// of the one with the target at the same place of the other.
-    #[tactic(auto, using(crate::proofs::Exchanges::exchanged_sources, readings::proofs::Ranges::made_more))]
+    #[tactic(auto, using(crate::proofs::Exchanges::exchanged_sources, lemmas::proofs::Ranges::made_more))]
     pub fn swap_contests(
         alloc: Global,
         shape: &Shape,

@@ -59,15 +59,17 @@ impl MemoryShelf {
         }
     }
 
-    /// Sets a file. Afterwards nothing is open.
+    /// Sets a file. Afterwards nothing is open. The only error is want of memory; the shelf is then as
+    /// before.
     pub fn add(&mut self, name: &str, bytes: &[u8]) -> Result<(), AllocError>
         ensures ok { OnOk result (self.new ≡ record self.old { files = insert self.old.files name.now bytes.now; left = [] }) }
-        ensures err { OnErr result (self.new ≡ record self.old { left = [] }) }
+        ensures err { OnErr result (self.new ≡ self.old) }
     {
-        self.current = None;
         let name = String::from_str(self.alloc, name)?;
         let bytes = Vec::from_slice(self.alloc, bytes)?;
         self.stored.insert(0, Stored { name, bytes })?;
+        // Only now: the files have moved, and until here the open one is still readable.
+        self.current = None;
         Ok(())
     }
 

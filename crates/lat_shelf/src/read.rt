@@ -22,7 +22,7 @@ pub enum ReadFail {
 /// Reads a file whole, of at most `limit` bytes. No file changes.
 ///
 /// `Fault` comes only where a fault rose, or where files are told and the name is missing;
-/// `TooLong` where one byte more than the limit was taken. At most `limit + 2` takes are made.
+/// `TooLong` where one byte more than the limit was taken.
 pub fn read_whole<H: Shelf>(
     alloc: Global,
     shelf: &mut H,
@@ -47,6 +47,7 @@ pub fn read_whole<H: Shelf>(
     }
     let mut bytes = Vec::new(alloc);
     let mut buf = [0u8; 4096];
+    // Each turn but the last takes at least one byte, so there are at most `limit + 2`.
     while bytes.len() <= limit as usize {
         let wanted = (limit as usize + 1 - bytes.len()).min(4096);
         match shelf.take(&mut buf[..wanted]) {

@@ -9,7 +9,7 @@ use Rattle.lat_base.specs.Deck.{Fits}
 use Rattle.lat_ballots.specs.Deck.{Ballots, IsDeck}
 use Rattle.std.specs.Simd.Lanes.{mask_l}
 use Rattle.std.proofs.lemmas.Simd.{ones-mask_l}
-use Rattle.readings.proofs.Counting.{count_alike}
+use Rattle.lemmas.proofs.Counting.{count_alike}
 use Rattle.readings.proofs.Readings.{reading_identity}
 
 -- the own total of a target counts the ballots that vote for it as they stand

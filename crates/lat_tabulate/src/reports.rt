@@ -9,7 +9,7 @@ use lat_misassign::Misassignment;
 use std::alloc::{AllocError, Global};
 
 /// The totals of all targets under a misassignment, in target order.
-#[tactic(auto, using(readings::proofs::Ranges::made_more))]
+#[tactic(auto, using(lemmas::proofs::Ranges::made_more))]
 pub fn report(
     alloc: Global,
     shape: &Shape,

@@ -17,9 +17,9 @@ use Rattle.readings.specs.Structural.{targets_of}
 use Rattle.readings.proofs.Places.{contest_is, nth_is_of, first_next, first_le}
 use Rattle.readings.proofs.Made.{made_at, made_long}
 use Rattle.readings.proofs.Marks.{marks_are}
-use Rattle.readings.proofs.Counting.{count_alike}
+use Rattle.lemmas.proofs.Counting.{count_alike}
 use Rattle.readings.proofs.Readings.{reading_at, reading_long, reading_identity}
-use Rattle.readings.proofs.Ranges.{range_suc, ranges_alike}
+use Rattle.lemmas.proofs.Ranges.{range_suc, ranges_alike}
 use Rattle.readings.proofs.Relabelling.{total_map}
 use Rattle.projection.proofs.Embedding.{there, chosen_at, part_long, part_contest, there_of, there_at, there_in}
 

@@ -16,14 +16,14 @@ use Rattle.readings.specs.Turn.{made}
 use Rattle.readings.proofs.Places.{is_of, contest_is, nth_is_of, first_le}
 use Rattle.readings.proofs.Made.{made_long, identity_at}
 use Rattle.readings.proofs.Marks.{marks_are}
-use Rattle.readings.proofs.Counting.{count_alike, count_map, count_le}
+use Rattle.lemmas.proofs.Counting.{count_alike, count_map, count_le}
 use Rattle.readings.proofs.Readings.{reading_at, reading_long, reading_identity}
 use Rattle.readings.proofs.Relabelling.{total_map}
 use Rattle.readings.proofs.Reports.{report_same}
 use Rattle.readings.proofs.RobustDecks.{robust_turn}
 use Rattle.readings.proofs.Turned.{place, turn_of}
 use Rattle.readings.proofs.Within.{source_within}
-use Rattle.readings.proofs.Ranges.{ranges_alike}
+use Rattle.lemmas.proofs.Ranges.{ranges_alike}
 use Rattle.projection.proofs.Embedding.{there, here, chosen_at, is_chosen, part_long, part_contest, there_at, there_in, here_there}
 use Rattle.projection.proofs.Cuts.{cut_made, mark_made, cut_long, cut_marks, cut_votes, cut_total}
 use Rattle.projection.proofs.Extended.{extended, extended_there, extended_other, extended_turn, by_chosen}

@@ -8,7 +8,7 @@ use Rattle.std.proofs.lemmas.Bool.{cases_lt}
 use Rattle.lat_base.specs.declared.contest.Contest.{Contest}
 use Rattle.lat_base.specs.Shape.{target_count, first_target, contest_at, contest_of, no_contest}
 use Rattle.lat_base.specs.Tally.{is_marked, mark_count}
-use Rattle.readings.proofs.Ranges.{count_more, sum_more}
+use Rattle.lemmas.proofs.Ranges.{count_more, sum_more}
 use Rattle.readings.proofs.Places.{contest_is}
 
 next_is : (c : ℕ) → c + 1 ≡ suc c

@@ -1,8 +1,3 @@
-pub mod Counting
-pub mod Sides
-pub mod DoubleSums
-pub mod Ranges
-pub mod Below
 pub mod Within
 pub mod Over
 pub mod Places

@@ -6,8 +6,8 @@ use Rattle.std.proofs.lemmas.List.FromFn.{get_or-range_with_len, length-range_wi
 use Rattle.std.proofs.lemmas.Bool.Decides.{nat_tests}
 use Rattle.lat_base.specs.Misassignment.{IsMisassignment, identity}
 use Rattle.readings.specs.Turn.{made, IsTurn, exchange}
-use Rattle.readings.proofs.Counting.{count_alike, count_map}
-use Rattle.readings.proofs.Ranges.{one_in}
+use Rattle.lemmas.proofs.Counting.{count_alike, count_map}
+use Rattle.lemmas.proofs.Ranges.{one_in}
 
 -- the source of u
 pub made_at : (n : ℕ) (f : ℕ → ℕ) (u : ℕ) → u < n → get_or (made n f) u 0 ≡ f u

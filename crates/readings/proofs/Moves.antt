@@ -9,7 +9,7 @@ use Rattle.lat_base.specs.Tally.{is_marked, reading, mark_count, votes_for, tota
 use Rattle.lat_base.specs.Deck.{Fits}
 use Rattle.readings.specs.Turn.{made}
 use Rattle.readings.specs.Structural.{IsStructural, targets_of}
-use Rattle.readings.proofs.Counting.{count_alike, count_map}
+use Rattle.lemmas.proofs.Counting.{count_alike, count_map}
 use Rattle.readings.proofs.Places.{first_next, first_le, is_of}
 use Rattle.readings.proofs.Made.{made_long, made_at}
 use Rattle.readings.proofs.Readings.{reading_at, reading_long, reading_identity}

@@ -5,8 +5,8 @@ use Rattle.std.specs.List.{range_with_len}
 use Rattle.std.proofs.lemmas.List.Sums.{sum_by-cons}
 use Rattle.std.proofs.lemmas.Bool.Decides.{nat_tests}
 use Rattle.lat_base.specs.Misassignment.{IsMisassignment}
-use Rattle.readings.proofs.Below.{one_more, none_below}
-use Rattle.readings.proofs.Ranges.{count_more}
+use Rattle.lemmas.proofs.Below.{one_more, none_below}
+use Rattle.lemmas.proofs.Ranges.{count_more}
 use Rattle.readings.proofs.Within.{within_of}
 
 at_one : (g : ℕ → Bool) (x n : ℕ) (b : Bool) → (x == n) ≡ b → ◌≡◌ {A = ℕ} (cond (g x && b) 1 0) (cond (g n) (cond b 1 0) 0)

@@ -11,7 +11,7 @@ use Rattle.lat_base.specs.Goodness.{IsRobust}
 use Rattle.readings.specs.Turn.{made, IsTurn}
 use Rattle.readings.specs.Structural.{IsStructural, relabelled}
 use Rattle.readings.proofs.Made.{made_long, identity_at}
-use Rattle.readings.proofs.Counting.{count_alike, count_map}
+use Rattle.lemmas.proofs.Counting.{count_alike, count_map}
 use Rattle.readings.proofs.Readings.{reading_long, reading_identity, reading_made}
 use Rattle.readings.proofs.Moves.{votes_move}
 use Rattle.readings.proofs.Reports.{report_same}

@@ -11,7 +11,7 @@ use Rattle.lat_base.specs.Goodness.{IsRobust}
 use Rattle.readings.specs.Turn.{made, IsTurn, exchange}
 use Rattle.readings.specs.Structural.{IsStructural}
 use Rattle.readings.proofs.Made.{made_is, made_at, made_long, identity_at, exchange_turn}
-use Rattle.readings.proofs.Counting.{count_alike}
+use Rattle.lemmas.proofs.Counting.{count_alike}
 use Rattle.readings.proofs.Readings.{reading_kept, reading_identity}
 use Rattle.readings.proofs.Moves.{totals_move}
 use Rattle.readings.proofs.Reports.{alike}

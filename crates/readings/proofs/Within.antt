@@ -5,7 +5,7 @@ use Rattle.std.proofs.lemmas.List.Elements.{All-from_recursion}
 use Rattle.std.proofs.lemmas.List.Sums.{sum_by-cons, count_by-le-length}
 use Rattle.std.proofs.lemmas.Bool.Decides.{nat_tests}
 use Rattle.lat_base.specs.Misassignment.{IsMisassignment, source}
-use Rattle.readings.proofs.Below.{below_count}
+use Rattle.lemmas.proofs.Below.{below_count}
 
 -- where as many pass as there are, the first passes, and as many of the others
 first_passes : (p : ℕ → Bool) (x : ℕ) (s : List ℕ) (b : Bool) → p x ≡ b → count_by p (x ∷ s) ≡ suc (length s) → (p x ≡ true) × (count_by p s ≡ length s)

@@ -15,7 +15,7 @@ use Rattle.lat_base.specs.Canonical.{IsCanonical, totals_in}
 use Rattle.lat_ballots.specs.Falling.{AreFalling}
 use Rattle.readings.proofs.Places.{first_next, first_le}
 use Rattle.symmetry.specs.Order.{RiseWithin, totals_of, AreEarlier}
-use Rattle.readings.proofs.Ranges.{ranges_alike}
+use Rattle.lemmas.proofs.Ranges.{ranges_alike}
 
 -- a slice of a list that a function makes
 made_slice : (f : ℕ → ℕ) (n a m : ℕ) → a + m ≤ n → slice_range (map f (range_with_len 0 n)) a (a + m) ≡ map f (range_with_len a m)

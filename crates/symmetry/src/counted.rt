@@ -16,7 +16,7 @@ pub struct Counted {
 }
 
 /// The targets in order, each with its total.
-#[tactic(auto, using(readings::proofs::Ranges::made_more))]
+#[tactic(auto, using(lemmas::proofs::Ranges::made_more))]
 pub fn count_targets(alloc: Global, shape: &Shape, deck: &Deck) -> Result<Vec<Counted>, AllocError>
     requires { deck.now.targets ≡ target_count shape.now }
     ensures { IfOk result (λ list. list.items ≡ map (counted shape.now deck.now.ballots) (range_with_len 0 (target_count shape.now))) }

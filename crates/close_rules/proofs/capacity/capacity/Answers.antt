@@ -1,7 +1,7 @@
 use Rattle.std.proofs.Common.{◌≡◌, ℕ, nat_lt, min, map, List, ap, sym, ◌∙◌, arith}
 use Rattle.lat_base.specs.declared.contest.Contest.{Contest}
 use Rattle.lat_base.specs.Shape.{contest_at}
-use Rattle.readings.proofs.Counting.{count_map}
+use Rattle.lemmas.proofs.Counting.{count_map}
 use Rattle.close_rules.specs.Capacity.{most_votes}
 use Rattle.close_rules.proofs.Capacities.{capacity_by_levels}
 use Rattle.close_rules.proofs.Levels.{count_above, levels, level_more}
