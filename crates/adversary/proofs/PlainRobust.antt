@@ -1,5 +1,5 @@
 -- The plain deck is robust.
-use Rattle.std.proofs.Common.{◌≡◌, ◌≤◌, ◌+◌, ◌++◌, ℕ, inl, Bool, None, List, [], ◌∷◌, length, map, take, refl, ap, sym, ◌∙◌, arith, length-append, All}
+use Rattle.std.proofs.Common.{◌≡◌, ◌≤◌, ◌+◌, ◌++◌, ℕ, inl, Bool, Option, None, List, [], ◌∷◌, length, map, take, replicate, refl, ap, sym, ◌∙◌, arith, length-append, All}
 use Rattle.std.specs.List.{range_with_len}
 use Rattle.std.proofs.lemmas.List.{length-replicate}
 use Rattle.std.proofs.lemmas.List.FromFn.{length-map-range_with_len}
@@ -19,6 +19,7 @@ use Rattle.tree_core.specs.declared.node.Node.TheVariants.{Close, Fork}
 use Rattle.tree_core.specs.Reading.{tree_of}
 use Rattle.tree_core.proofs.Empty.{no_solution}
 use Rattle.evade_space.specs.declared.skipped.Skipped.{Skipped}
+use Rattle.evade_space.specs.Counts.{counts_of}
 use Rattle.evade_space.specs.Sought.{own_sought, start}
 use Rattle.evade_space.specs.Steps.{IsEvadeState, IsSolution, evade_steps}
 use Rattle.evade_space.proofs.Laws.{kid_is_own, skipped_has_none, kids_share}
@@ -30,8 +31,8 @@ use Rattle.adversary.proofs.Attacks.{is_robust}
 own_start : (contests : List Contest) (deck : List (List Bool)) → IsShape contests → Fits (target_count contests) deck → length deck ≤ 1024 → IsEvadeState (own_sought contests deck) (start (own_sought contests deck))
 own_start contests deck shape fits few = record {
   is_sought = record { shape = shape; fits = fits; few = few; wanted = report_long contests deck (identity (target_count contests)); skip = identity_is (target_count contests) };
-  long = length-replicate {A = _} (target_count contests) None;
-  partly = start_partly (target_count contests) _ shape.few_targets;
+  long = length-replicate {A = Option ℕ} (target_count contests) None;
+  partly = start_partly (target_count contests) (counts_of contests deck (replicate (target_count contests) None)) shape.few_targets;
   kept = refl;
   alive = inl refl;
 }

@@ -6,10 +6,10 @@ mod chooser;
 mod columns;
 mod exchange;
 mod order;
-mod plain_robust;
+mod plain;
 
 pub use attacking::{Attacked, attack};
-pub use plain_robust::plain_robust;
+pub use plain::plain_robust;
 
 #[cfg(test)]
 mod tests;
