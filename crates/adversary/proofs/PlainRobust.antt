@@ -37,17 +37,21 @@ own_start contests deck shape fits few = record {
   alive = inl refl;
 }
 
+-- a fork on image u into one kid
+abbrev pub fork_on : ℕ → Node ℕ Skipped
+fork_on u = Fork u 1
+
 -- the nodes in order
 abbrev pub plain_nodes : ℕ → Skipped → List (Node ℕ Skipped)
 plain_nodes targets r = map (λ u. Fork u 1) (range_with_len 0 targets) ++ Close r ∷ []
 
 pub nodes_long : (targets : ℕ) (r : Skipped) → length (plain_nodes targets r) ≡ targets + 1
 nodes_long targets r =
-    omega (arith, length-append (map (λ (u : ℕ). Fork {B = ℕ} {R = Skipped} u 1) (range_with_len 0 targets)) (Close r ∷ []), length-map-range_with_len (λ (u : ℕ). Fork {B = ℕ} {R = Skipped} u 1) 0 targets)
+    omega (arith, length-append (map fork_on (range_with_len 0 targets)) (Close r ∷ []), length-map-range_with_len fork_on 0 targets)
 
 pub nodes_rise : (targets : ℕ) (r : Skipped) → take targets (plain_nodes targets r) ≡ map (λ u. Fork u 1) (range_with_len 0 targets)
 nodes_rise targets r =
-    ap (λ (n : ℕ). take n (plain_nodes targets r)) (sym (length-map-range_with_len (λ (u : ℕ). Fork {B = ℕ} {R = Skipped} u 1) 0 targets)) ∙ take-append_seam (map (λ (u : ℕ). Fork {B = ℕ} {R = Skipped} u 1) (range_with_len 0 targets)) (Close r ∷ [])
+    ap (λ (n : ℕ). take n (plain_nodes targets r)) (sym (length-map-range_with_len fork_on 0 targets)) ∙ take-append_seam (map fork_on (range_with_len 0 targets)) (Close r ∷ [])
 
 pub plain_is_robust : (contests : List Contest) (rules : RuleSet) → IsShape contests → plain_size (target_count contests) rules ≤ 1024 → IsRobust contests (plain_ballots (target_count contests) rules).ballots
 plain_is_robust contests rules shape few =

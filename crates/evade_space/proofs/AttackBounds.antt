@@ -171,4 +171,3 @@ module _ (sought : Sought) where
       let most = subst (λ (n : ℕ). count_by is_pick (preorder (tree_of nodes)) ≤ most_nodes n) all bound in
       let same : count_by is_pick (preorder (tree_of nodes)) ≡ budget = ap (count_by is_pick) open_tree.lists ∙ open_tree.count in
       omega (arith, most, same, most_factorial (target_count sought.contests))
-

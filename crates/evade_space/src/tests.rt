@@ -22,7 +22,11 @@ impl Walked {
     fn and(self, right: bool) -> Walked {
         Walked {
             made: self.made.saturating_add(1),
-            right: if right { self.right.saturating_add(1) } else { self.right },
+            right: if right {
+                self.right.saturating_add(1)
+            } else {
+                self.right
+            },
         }
     }
 }

@@ -6,7 +6,7 @@ use Rattle.tree_core.specs.declared.node.Node.{Node}
 use Rattle.tree_core.specs.declared.node.Node.TheVariants.{Close, Fork}
 use Rattle.evade_space.specs.declared.skipped.Skipped.{Skipped}
 use Rattle.evade_space.proofs.PlainTree.{plain_tree}
-use Rattle.adversary.proofs.PlainRobust.{plain_nodes, nodes_long, nodes_rise, plain_is_robust}
+use Rattle.adversary.proofs.PlainRobust.{fork_on, plain_nodes, nodes_long, nodes_rise, plain_is_robust}
 use Rattle.adversary.proofs.plain.plain_robust.Goals as goal
 
 pub returns-in_err-nodes-clause-robust : goal.returns-in_err-nodes-clause-robust
@@ -23,32 +23,32 @@ returns-clause-robust c = plain_is_robust c.args.shape.now c.args.rules.now c.ta
 
 pub loop-u-preserved : goal.loop-u-preserved
 loop-u-preserved c =
-    c.in_ok-push.ensures.items ∙ ap (λ (xs : List (Node ℕ Skipped)). xs ++ Fork c.loop-u.u 1 ∷ []) c.loop-u.invariant ∙ sym (made_more (λ (u : ℕ). Fork {B = ℕ} {R = Skipped} u 1) c.loop-u.u)
+    c.in_ok-push.ensures.items ∙ ap (λ (xs : List (Node ℕ Skipped)). xs ++ Fork c.loop-u.u 1 ∷ []) c.loop-u.invariant ∙ sym (made_more fork_on c.loop-u.u)
 
 pub from_nodes-requires : goal.from_nodes-requires
 from_nodes-requires c =
     let end : c.loop-u.u ≡ target_count c.args.shape.now = omega (arith, c.loop-u-test.false, c.loop-u.auto.u-end, c.targets-targets.ensures.count) in
     let nodes : c.push-2.new.self.items ≡ plain_nodes (target_count c.args.shape.now) (record {}) =
-    c.in_ok-push-2.ensures.items ∙ ap (λ (xs : List (Node ℕ Skipped)). xs ++ Close (record {}) ∷ []) (c.loop-u.invariant ∙ ap (λ (n : ℕ). map (λ (u : ℕ). Fork {B = ℕ} {R = Skipped} u 1) (range_with_len 0 n)) end) in
+    c.in_ok-push-2.ensures.items ∙ ap (λ (xs : List (Node ℕ Skipped)). xs ++ Close (record {}) ∷ []) (c.loop-u.invariant ∙ ap (λ (n : ℕ). map fork_on (range_with_len 0 n)) end) in
     (plain_tree c.args.shape.now c.args.rules.now c.targets-targets.ensures.shape (record {}) c.push-2.new.self.items nodes).lists
 
 pub returns-clause-tree : goal.returns-clause-tree
 returns-clause-tree c =
     let end : c.loop-u.u ≡ target_count c.args.shape.now = omega (arith, c.loop-u-test.false, c.loop-u.auto.u-end, c.targets-targets.ensures.count) in
     let nodes : c.push-2.new.self.items ≡ plain_nodes (target_count c.args.shape.now) (record {}) =
-    c.in_ok-push-2.ensures.items ∙ ap (λ (xs : List (Node ℕ Skipped)). xs ++ Close (record {}) ∷ []) (c.loop-u.invariant ∙ ap (λ (n : ℕ). map (λ (u : ℕ). Fork {B = ℕ} {R = Skipped} u 1) (range_with_len 0 n)) end) in
+    c.in_ok-push-2.ensures.items ∙ ap (λ (xs : List (Node ℕ Skipped)). xs ++ Close (record {}) ∷ []) (c.loop-u.invariant ∙ ap (λ (n : ℕ). map fork_on (range_with_len 0 n)) end) in
     plain_tree c.args.shape.now c.args.rules.now c.targets-targets.ensures.shape (record {}) c.from_nodes.result (c.from_nodes.ensures ∙ nodes)
 
 pub returns-clause-rising : goal.returns-clause-rising
 returns-clause-rising c =
     let end : c.loop-u.u ≡ target_count c.args.shape.now = omega (arith, c.loop-u-test.false, c.loop-u.auto.u-end, c.targets-targets.ensures.count) in
     let nodes : c.push-2.new.self.items ≡ plain_nodes (target_count c.args.shape.now) (record {}) =
-    c.in_ok-push-2.ensures.items ∙ ap (λ (xs : List (Node ℕ Skipped)). xs ++ Close (record {}) ∷ []) (c.loop-u.invariant ∙ ap (λ (n : ℕ). map (λ (u : ℕ). Fork {B = ℕ} {R = Skipped} u 1) (range_with_len 0 n)) end) in
+    c.in_ok-push-2.ensures.items ∙ ap (λ (xs : List (Node ℕ Skipped)). xs ++ Close (record {}) ∷ []) (c.loop-u.invariant ∙ ap (λ (n : ℕ). map fork_on (range_with_len 0 n)) end) in
     ap (take (target_count c.args.shape.now)) (c.from_nodes.ensures ∙ nodes) ∙ nodes_rise (target_count c.args.shape.now) (record {})
 
 pub returns-clause-nodes : goal.returns-clause-nodes
 returns-clause-nodes c =
     let end : c.loop-u.u ≡ target_count c.args.shape.now = omega (arith, c.loop-u-test.false, c.loop-u.auto.u-end, c.targets-targets.ensures.count) in
     let nodes : c.push-2.new.self.items ≡ plain_nodes (target_count c.args.shape.now) (record {}) =
-    c.in_ok-push-2.ensures.items ∙ ap (λ (xs : List (Node ℕ Skipped)). xs ++ Close (record {}) ∷ []) (c.loop-u.invariant ∙ ap (λ (n : ℕ). map (λ (u : ℕ). Fork {B = ℕ} {R = Skipped} u 1) (range_with_len 0 n)) end) in
+    c.in_ok-push-2.ensures.items ∙ ap (λ (xs : List (Node ℕ Skipped)). xs ++ Close (record {}) ∷ []) (c.loop-u.invariant ∙ ap (λ (n : ℕ). map fork_on (range_with_len 0 n)) end) in
     ap length (c.from_nodes.ensures ∙ nodes) ∙ nodes_long (target_count c.args.shape.now) (record {})
