@@ -32,7 +32,7 @@ abbrev pub IsPartsFault : List Contest → RuleSet → Option Proved → Option 
 IsPartsFault contests rules proved lower part i =
     ((p : Proved) × (proved ≡ Some p) × IsDeckFault contests rules p part i)
     ⊎ (IfSome proved (IsProved contests rules)
-      × (l : LowerPart) × (lower ≡ Some l) × (part ≡ Lower) × IsLowerFault contests rules l i)
+    × (l : LowerPart) × (lower ≡ Some l) × (part ≡ Lower) × IsLowerFault contests rules l i)
 
 -- a certificate holds
 abbrev pub CertHolds : CertValue → Type 0
@@ -53,4 +53,4 @@ abbrev pub IsOpenFault : OpenValue → Part → ℕ → Type 0
 IsOpenFault file part i =
     IsPartsFault file.contests file.rules file.best file.lower part i
     ⊎ (PartsHold file.contests file.rules file.best file.lower
-      × (part ≡ License) × IsLicenseFault file.contests file.rules file.from file.license i)
+    × (part ≡ License) × IsLicenseFault file.contests file.rules file.from file.license i)
