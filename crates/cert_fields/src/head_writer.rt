@@ -1,5 +1,5 @@
 ghost use Rattle.std.specs.Prelude.{◌≡◌, ◌<◌, ◌++◌, OnOk, OnErr, All, flat_map, take, length};
-ghost use Rattle.lat_base.specs.Names.{AreNames, NamesFit, names_at};
+ghost use Rattle.lat_base.specs.Names.{NamesFit, names_at};
 ghost use Rattle.lat_base.specs.Rules.{IsRuleSet};
 ghost use Rattle.cert_fields.specs.Spelling.{id_text, IsText};
 ghost use Rattle.cert_fields.specs.Head.{Head, IsHead, head_text, contest_text, contests_text};
@@ -82,9 +82,10 @@ fn append_head(
     ensures ok { OnOk result (out.new.items ≡ out.old.items ++
         head_text (record { names = names.now; contests = shape.now; rules = rules.now })) }
     ensures kept { take (length out.old.items) out.new.items ≡ out.old.items }
-    ensures spelled { OnOk result (AreNames names.now.contests →
-        IsHead (record { names = names.now; contests = shape.now; rules = rules.now })) }
+    ensures spelled { OnOk result
+        (IsHead (record { names = names.now; contests = shape.now; rules = rules.now })) }
 {
+    names.stand_once();
     put_text(out, names.style())?;
     put_u16(out, shape.contests())?;
     append_contests(out, names.contests(), shape)?;
@@ -104,10 +105,8 @@ pub fn put_head(
     ensures ok { OnOk result (out.new.items ≡ out.old.items ++
         head_text (record { names = names.now; contests = shape.now; rules = rules.now })) }
     ensures err { OnErr result (out.new.items ≡ out.old.items) }
-
-    // What was written is a head: no id of the names stands twice, as their type keeps.
-    ensures spelled { OnOk result (AreNames names.now.contests →
-        IsHead (record { names = names.now; contests = shape.now; rules = rules.now })) }
+    ensures spelled { OnOk result
+        (IsHead (record { names = names.now; contests = shape.now; rules = rules.now })) }
 {
     let before = out.len();
     let done = append_head(out, names, shape, rules);

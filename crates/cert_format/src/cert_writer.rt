@@ -1,5 +1,4 @@
 ghost use Rattle.std.specs.Prelude.{◌≡◌, ◌++◌, IfOk, OnOk, IfSome};
-ghost use Rattle.lat_base.specs.Names.{AreNames};
 ghost use Rattle.cert_format.specs.Fields.{deck_part_text, lower_part_text};
 ghost use Rattle.cert_format.specs.Fields.{IsProvedField, IsLowerField};
 ghost use Rattle.cert_format.specs.Files.{cert_text, IsCert};
@@ -46,9 +45,7 @@ fn append_lower_part(alloc: Global, out: &mut Vec<u8>, cert: &Cert) -> Result<()
 /// The bytes of a certificate. The only error is want of memory.
 pub fn write_cert(alloc: Global, cert: &Cert) -> Result<Vec<u8>, AllocError>
     ensures text { IfOk result (λ bytes. bytes.items ≡ cert_text cert.now) }
-
-    // It has a spelling: no id of its names stands twice, as their type keeps.
-    ensures spelled { OnOk result (AreNames cert.now.names.contests → IsCert cert.now) }
+    ensures spelled { OnOk result (IsCert cert.now) }
 {
     let verdict = cert.verdict();
     let rules = cert.rules();

@@ -1,5 +1,5 @@
 ghost use Rattle.std.specs.Prelude.{◌≡◌, Err, IfOk, OnOk, length};
-ghost use Rattle.lat_base.specs.Names.{AreNames, NamesFit};
+ghost use Rattle.lat_base.specs.Names.{NamesFit};
 ghost use Rattle.lat_base.specs.Shape.{target_count};
 ghost use Rattle.cert_fields.specs.Reading.{Gives};
 ghost use Rattle.cert_format.specs.Files.{EvadeValue, evade_of, evade_text, evade_magic, IsEvade};
@@ -30,10 +30,8 @@ pub fn write_evade(
     requires fits { deck.now.targets ≡ target_count shape.now }
     ensures text { IfOk result (λ bytes.
         bytes.items ≡ evade_text (evade_of names.now shape.now rules.now deck.now tree.now)) }
-
-    // It has a spelling: no id of its names stands twice, as their type keeps.
-    ensures spelled { OnOk result (AreNames names.now.contests →
-        IsEvade (evade_of names.now shape.now rules.now deck.now tree.now)) }
+    ensures spelled { OnOk result
+        (IsEvade (evade_of names.now shape.now rules.now deck.now tree.now)) }
 {
     let mut out = Vec::from_slice(alloc, b"LATEVAD1".as_slice())?;
     put_head(alloc, &mut out, names, shape, rules)?;
@@ -70,6 +68,10 @@ pub fn read_evade(
 ) -> Result<(Names, Shape, Rules, Deck, Tree<u16, Skipped>), CertFault>
     ensures found { IfOk result (λ x. IsEvade (evade_of x.0 x.1 x.2 x.3 x.4) ×
         (bytes.now ≡ evade_text (evade_of x.0 x.1 x.2 x.3 x.4))) }
+
+    // What was read can be written.
+    ensures fits { IfOk result (λ x.
+        NamesFit x.0.contests x.1 × (x.3.targets ≡ target_count x.1)) }
     ensures refused { result ≡ Err CertFault.NotACertificate →
         (file : EvadeValue) → IsEvade file → bytes.now ≡ evade_text file → ⊥ }
 {

@@ -1,5 +1,4 @@
 ghost use Rattle.std.specs.Prelude.{◌≡◌, ◌++◌, IfOk, OnOk, IfSome};
-ghost use Rattle.lat_base.specs.Names.{AreNames};
 ghost use Rattle.cert_format.specs.Fields.{best_text, lower_part_text};
 ghost use Rattle.cert_format.specs.Fields.{IsProvedField, IsLowerField};
 ghost use Rattle.cert_format.specs.Files.{open_text, IsOpen};
@@ -39,9 +38,7 @@ fn append_lower_part(alloc: Global, out: &mut Vec<u8>, file: &OpenFile) -> Resul
 /// The bytes of an open file. The only error is want of memory.
 pub fn write_open(alloc: Global, file: &OpenFile) -> Result<Vec<u8>, AllocError>
     ensures text { IfOk result (λ bytes. bytes.items ≡ open_text file.now) }
-
-    // It has a spelling: no id of its names stands twice, as their type keeps.
-    ensures spelled { OnOk result (AreNames file.now.names.contests → IsOpen file.now) }
+    ensures spelled { OnOk result (IsOpen file.now) }
 {
     let max = file.max();
     let from = file.from();

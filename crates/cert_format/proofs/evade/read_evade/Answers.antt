@@ -6,11 +6,19 @@ use Rattle.cert_fields.specs.declared.fault.CertFault.{CertFault}
 use Rattle.cert_fields.specs.declared.fault.CertFault.TheVariants.{NotACertificate}
 use Rattle.cert_types.specs.declared.proved.Proved.{Proved}
 use Rattle.cert_format.proofs.Evades.{evade_found, evade_refused}
+use Rattle.cert_format.proofs.Names.{named_fit}
 use Rattle.cert_format.proofs.evade.read_evade.Goals as goal
 
 pub returns-in-Ok-clause-found : goal.returns-in-Ok-clause-found
 returns-in-Ok-clause-found c =
     evade_found c.args.bytes.now (record { names = c.in-Ok.names; contests = c.in-Ok.shape; rules = c.in-Ok.rules }, c.in-Ok.attacked) c.in-Ok.ensures
+
+pub returns-in-Ok-clause-fits : goal.returns-in-Ok-clause-fits
+returns-in-Ok-clause-fits c =
+    let found = evade_found c.args.bytes.now (record { names = c.in-Ok.names; contests = c.in-Ok.shape; rules = c.in-Ok.rules }, c.in-Ok.attacked) c.in-Ok.ensures in (
+      named_fit c.in-Ok.names.contests c.in-Ok.shape found.0.head.named,
+      found.0.attacked.rows.width,
+    )
 
 pub returns-in-Err-clause-refused : goal.returns-in-Err-clause-refused
 returns-in-Err-clause-refused c h =
