@@ -17,8 +17,7 @@ use std::marker::Model;
 /// The records of a table after its header, seen as the list of those that are left.
 #[derive(Drop)]
 pub struct Records<'a> {
-    // Boxed, since a reader is large and a `Records` is handed on from row to row.
-    reader: Box<Reader<&'a [u8]>>,
+    reader: Reader<&'a [u8]>,
 }
 
 impl<'a> Model for Records<'a> {
@@ -31,14 +30,13 @@ impl<'a> Model for Records<'a> {
 
     ghost Value = { List (List (List ℕ)) };
 
-    ghost view = { λ a. left_of (reader_state a.reader.value) (unwrap_or (source_of
-        (λ (s : Bor (List ℕ)). Some s.now) a.reader.value) []) };
+    ghost view = { λ a. left_of (reader_state a.reader) (unwrap_or (source_of
+        (λ (s : Bor (List ℕ)). Some s.now) a.reader) []) };
 
-    ghost invariant = { λ a. (reader_config a.reader.value ≡ default_config) ×
-        (reader_trim a.reader.value ≡ trim.None) × (is_flexible a.reader.value ≡ false)
-        × (took_first a.reader.value ≡ true) × (expected_len a.reader.value ≡ Some 3)
-        × (ends_at_end (reader_state a.reader.value) ≡ false)
-        × IsSome (source_of (λ (s : Bor (List ℕ)). Some s.now) a.reader.value) };
+    ghost invariant = { λ a. (reader_config a.reader ≡ default_config) ×
+        (reader_trim a.reader ≡ trim.None) × (is_flexible a.reader ≡ false)
+        × (took_first a.reader ≡ true) × (expected_len a.reader ≡ Some 3) × (ends_at_end (reader_state a.reader) ≡ false)
+        × IsSome (source_of (λ (s : Bor (List ℕ)). Some s.now) a.reader) };
 }
 
 /// Field `i` of a record, or nothing past its end.
@@ -95,7 +93,6 @@ impl<'a> Records<'a> {
         match reader.read_byte_record(&mut fields) {
             Ok(true) => {
                 if is_header(&fields, first, second, third) {
-                    let reader = Box::new(alloc, reader)?;
                     Ok(Records { reader })
                 } else {
                     Err(CsvFail::Fault(CsvFault::NotCsv(1)))
