@@ -68,15 +68,17 @@ fn walk(
     requires { IsEvadeState space.now state.old }
     ensures { OnOk result (state.new ≡ state.old) }
 {
-    let mut walked = walked;
     let label = next_image(state);
-    let kids = space.arity(state, &label).unwrap_or(0);
     if levels == 0 {
         return Ok(walked);
     }
+    let Some(kids) = space.arity(state, &label) else {
+        return Ok(walked);
+    };
+    space.laws();
+    let mut walked = walked;
     for kid in 0..kids {
         space.enter(state, &label, kid);
-        space.laws();
         walked = walked.and(is_right(alloc, space, state)?);
         walked = walk(alloc, space, state, walked, levels - 1)?;
         space.leave(state);
@@ -100,9 +102,11 @@ fn kept_counts_are_counts_taken_anew(rt: HostRuntime) -> Result<(), Fail> {
     };
     let shape = Shape::new(alloc, &[two, three])?;
     let mut deck = Deck::blank(alloc, &shape, 3)?;
-    for t in 0..deck.targets() {
-        deck.set(0, t, true);
-        deck.set(1, t, true);
+    for t in 0..5 {
+        if deck.ballots() == 3 && t < deck.targets() {
+            deck.set(0, t, true);
+            deck.set(1, t, true);
+        }
     }
     let space = Evade::own(alloc, &shape, &deck)?;
     let mut state = space.state(alloc)?;
