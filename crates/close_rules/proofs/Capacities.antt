@@ -33,7 +33,7 @@ abbrev votes_in : List Contest → ℕ → List Bool → ℕ
 votes_in contests c ballot = count_by (λ t. votes_for contests ballot t) (targets_of contests c)
 
 -- the totals of a contest are its votes on all ballots
-total_votes : (contests : List Contest) (deck : List (List Bool)) (c : ℕ) → (ts : List ℕ) → ((t : ℕ) → own_total contests deck t ≡ count_by (λ ballot. votes_for contests ballot t) deck)
+pub total_votes : (contests : List Contest) (deck : List (List Bool)) (c : ℕ) → (ts : List ℕ) → ((t : ℕ) → own_total contests deck t ≡ count_by (λ ballot. votes_for contests ballot t) deck)
     → sum (map (own_total contests deck) ts) ≡ sum_by (λ ballot. count_by (λ t. votes_for contests ballot t) ts) deck
 total_votes contests deck c ts own =
     sum-map (own_total contests deck) ts ∙ (sums_agree (own_total contests deck) (λ t. count_by (λ ballot. votes_for contests ballot t) deck) ts own ∙ sums_exchanged (λ ballot t. votes_for contests ballot t) ts deck)
@@ -101,7 +101,7 @@ capacity_by_levels p c =
     largest_by_levels (contest_at p.contests c).limit (most_voting p c) (map (most_votes p.contests c) p.marks) (made_up_to (most_votes p.contests c) (contest_at p.contests c).limit [] p.marks (λ j lt. few_possible p.contests (get_or p.marks j []) c))
 
 -- the votes of a contest
-votes_fit : (p : PartialDeck) (deck : List (List Bool)) (c : ℕ) → IsPartial p → IsSolution p deck → c < length p.contests → sum_by (votes_in p.contests c) deck ≤ capacity p c
+pub votes_fit : (p : PartialDeck) (deck : List (List Bool)) (c : ℕ) → IsPartial p → IsSolution p deck → c < length p.contests → sum_by (votes_in p.contests c) deck ≤ capacity p c
 votes_fit p deck c is solution h =
     let contests = p.contests in
     let limit = (contest_at contests c).limit in

@@ -14,7 +14,7 @@ use Rattle.deck_state.specs.Mark.{is_marked, may_be_marked, is_undecided}
 use Rattle.deck_state.specs.PartialDeck.{PartialDeck, bounds_at}
 use Rattle.deck_state.specs.Shown.{IsComplete, shown}
 use Rattle.deck_state.specs.Trail.{IsPartial}
-use Rattle.deck_state.specs.Votes.{marks_in, marked_in, possible_in, limit_of, others_marked, surely_votes_for, possibly_votes_for, lo, hi}
+use Rattle.deck_state.specs.Votes.{marks_in, marked_in, possible_in, limit_of, others_marked, surely_votes_for, possibly_votes_for, sure_votes, possible_votes, lo, hi}
 use Rattle.deck_state.proofs.Compared.{counts_same, slice_long, slice_at}
 use Rattle.deck_state.proofs.Enclosed.{limit_some}
 use Rattle.deck_state.proofs.Room.{row_long}
@@ -80,17 +80,22 @@ possible_vote_is contests row t h some is =
     by_mark true a = fits a
     by_mark false a = refl
 
+-- the sure and the possible votes of a target are its total
+pub sure_total : (p : PartialDeck) (t : ℕ) → IsPartial p → IsComplete p → t < target_count p.contests → sure_votes p t ≡ own_total p.contests (shown p) t
+sure_total p t is complete h =
+    count_alike (λ (row : List Mark). surely_votes_for p.contests row t) (λ (row : List Mark). votes_for p.contests (map is_marked row) t) p.marks
+    (λ j d lt. sure_is p.contests (get_or p.marks j d) t h (decided_row p j d is complete (omega (arith, lt, is.height))))
+    ∙ shown_own p t is
+
+pub possible_total : (p : PartialDeck) (t : ℕ) → IsPartial p → IsComplete p → t < target_count p.contests → possible_votes p t ≡ own_total p.contests (shown p) t
+possible_total p t is complete h =
+    count_alike (λ (row : List Mark). possibly_votes_for p.contests row t) (λ (row : List Mark). votes_for p.contests (map is_marked row) t) p.marks
+    (λ j d lt. possible_vote_is p.contests (get_or p.marks j d) t h (limit_some p.contests t is.shape h) (decided_row p j d is complete (omega (arith, lt, is.height))))
+    ∙ shown_own p t is
+
 -- the least and the greatest total of a target are its total, if the bounds are
 pub lo_is : (p : PartialDeck) (t : ℕ) → IsPartial p → IsComplete p → t < target_count p.contests → lo p t ≡ max (bounds_at p t).low (own_total p.contests (shown p) t)
-lo_is p t is complete h =
-    ap (max (bounds_at p t).low)
-    (count_alike (λ (row : List Mark). surely_votes_for p.contests row t) (λ (row : List Mark). votes_for p.contests (map is_marked row) t) p.marks
-    (λ j d lt. sure_is p.contests (get_or p.marks j d) t h (decided_row p j d is complete (omega (arith, lt, is.height))))
-    ∙ shown_own p t is)
+lo_is p t is complete h = ap (max (bounds_at p t).low) (sure_total p t is complete h)
 
 pub hi_is : (p : PartialDeck) (t : ℕ) → IsPartial p → IsComplete p → t < target_count p.contests → hi p t ≡ min (bounds_at p t).high (own_total p.contests (shown p) t)
-hi_is p t is complete h =
-    ap (min (bounds_at p t).high)
-    (count_alike (λ (row : List Mark). possibly_votes_for p.contests row t) (λ (row : List Mark). votes_for p.contests (map is_marked row) t) p.marks
-    (λ j d lt. possible_vote_is p.contests (get_or p.marks j d) t h (limit_some p.contests t is.shape h) (decided_row p j d is complete (omega (arith, lt, is.height))))
-    ∙ shown_own p t is)
+hi_is p t is complete h = ap (min (bounds_at p t).high) (possible_total p t is complete h)

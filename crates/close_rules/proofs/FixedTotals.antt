@@ -65,7 +65,7 @@ record AreKnown (p : PartialDeck) (deck : List (List Bool)) (c d : ℕ) : Type 0
   pub first : lows p c ≡ map (own_total p.contests deck) (targets_of p.contests c)
   pub second : lows p d ≡ map (own_total p.contests deck) (targets_of p.contests d)
 
-same_shape : (c d : Contest) → has_shape_of c d ≡ true → c ≡ d
+pub same_shape : (c d : Contest) → has_shape_of c d ≡ true → c ≡ d
 same_shape c d h =
     let parts = and_parts (c.limit == d.limit) (c.targets == d.targets) h in
     let limits = eqb-true c.limit d.limit parts.0 in

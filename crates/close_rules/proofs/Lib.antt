@@ -12,12 +12,15 @@ pub mod Levels
 pub mod Largest
 pub mod Capacities
 pub mod FewVotes
+pub mod Choices
 pub mod RowVotes
 pub mod DecidedRows
 pub mod Misassigned
 pub mod Touched
 pub mod Evasion
+pub mod Pigeons
 pub mod Refuted
+pub mod Untested
 pub mod Found
 pub mod Kids
 pub mod CompleteRows
@@ -25,3 +28,4 @@ pub mod Unrefuted
 pub mod ShownRules
 pub mod ShownSolution
 pub mod Evaded
+pub mod OwnBounds

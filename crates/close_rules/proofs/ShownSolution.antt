@@ -57,7 +57,7 @@ rise_far p t (suc k) left h same =
     subst (λ (u : ℕ). own_total p.contests (shown p) t < own_total p.contests (shown p) u) (sym one) whole
 
 -- the deck obeys the rules
-shown_obeys : (p : PartialDeck) → IsLeft p → Obeys p.contests p.rules (shown p)
+pub shown_obeys : (p : PartialDeck) → IsLeft p → Obeys p.contests p.rules (shown p)
 shown_obeys p left = record {
   blank = blank_enough p (left.none Blank tt);
   over = λ c h can. over_enough p c left.is left.complete (left.none (Over c) tt) h can;
@@ -70,10 +70,10 @@ shown_obeys p left = record {
 }
 
 -- its totals are known
-low_known : (p : PartialDeck) (t : ℕ) → IsLeft p → t < target_count p.contests → lo p t ≡ own_total p.contests (shown p) t
+pub low_known : (p : PartialDeck) (t : ℕ) → IsLeft p → t < target_count p.contests → lo p t ≡ own_total p.contests (shown p) t
 low_known p t left h = let are = fine p t left h in omega (arith, lo_is p t left.is left.complete h, are.above)
 
-high_known : (p : PartialDeck) (t : ℕ) → IsLeft p → t < target_count p.contests → hi p t ≡ own_total p.contests (shown p) t
+pub high_known : (p : PartialDeck) (t : ℕ) → IsLeft p → t < target_count p.contests → hi p t ≡ own_total p.contests (shown p) t
 high_known p t left h = let are = fine p t left h in omega (arith, hi_is p t left.is left.complete h, are.below)
 
 fixed : (p : PartialDeck) (c : ℕ) → IsLeft p → c < length p.contests → is_fixed p c ≡ true
@@ -97,7 +97,7 @@ shape_passes : (c d : Contest) → c ≡ d → has_shape_of c d ≡ true
 shape_passes c d e = λ i. eq-eqb c.limit d.limit (ap (λ (x : Contest). x.limit) e) i && eq-eqb c.targets d.targets (ap (λ (x : Contest). x.targets) e) i
 
 -- the deck is canonical
-shown_canonical : (p : PartialDeck) → IsLeft p → IsCanonical p.contests (shown p)
+pub shown_canonical : (p : PartialDeck) → IsLeft p → IsCanonical p.contests (shown p)
 shown_canonical p left = record {
   ballots = λ j h less. in_order p j left.is left.complete (left.none (Order j) tt) (omega (arith, h, shown_size p left.is)) less;
   totals = λ t h same. omega (arith, rise p t left h same);
@@ -127,3 +127,9 @@ shown_solution p is complete robust none =
         below = λ t h. (fine p t left h).below;
       };
     }
+
+-- and if not it still obeys the rules and is canonical
+pub shown_left : (p : PartialDeck) → IsPartial p → IsComplete p → ((r : Reason) → IsCheap r → refutes p r ≡ false) → Obeys p.contests p.rules (shown p) × IsCanonical p.contests (shown p)
+shown_left p is complete none =
+    let left : IsLeft p = record { is = is; complete = complete; none = none } in
+    (shown_obeys p left, shown_canonical p left)

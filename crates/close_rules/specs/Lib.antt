@@ -5,6 +5,7 @@ pub mod Columns
 pub mod Fixed
 pub mod Totals
 pub mod Ballots
+pub mod Pigeon
 pub mod Capacity
 pub mod Evading
 pub mod Refutes

@@ -1,5 +1,5 @@
 -- The reasons for which no good canonical deck is left in a partial deck.
-use Rattle.std.specs.Prelude.{◌≡◌, Bool, true, false}
+use Rattle.std.specs.Prelude.{◌≡◌, Bool, true}
 use Rattle.deck_state.specs.PartialDeck.{PartialDeck}
 use Rattle.close_rules.specs.declared.reason.Reason.{Reason}
 use Rattle.close_rules.specs.declared.reason.Reason.TheVariants.{Order, Totals, Capacity, Blank, Over, Twin, ContestOrder, Pigeon, Columns, Same, Evade}
@@ -9,9 +9,10 @@ use Rattle.close_rules.specs.Columns.{have_same_columns, has_few_columns}
 use Rattle.close_rules.specs.Evading.{evades}
 use Rattle.close_rules.specs.Fixed.{are_twins, are_out_of_order}
 use Rattle.close_rules.specs.Order.{is_out_of_order}
+use Rattle.close_rules.specs.Pigeon.{has_few_lists}
 use Rattle.close_rules.specs.Totals.{has_no_totals}
 
--- whether the reason holds of the partial deck; too many contests of one shape are not tested yet
+-- whether the reason holds of the partial deck
 abbrev pub refutes : PartialDeck → Reason → Bool
 refutes p (Order j) = is_out_of_order p j
 refutes p (Totals c) = has_no_totals p c
@@ -20,7 +21,7 @@ refutes p Blank = lacks_blank p
 refutes p (Over c) = lacks_overvoted p c
 refutes p (Twin c d) = are_twins p c d
 refutes p (ContestOrder c d) = are_out_of_order p c d
-refutes p (Pigeon c) = false
+refutes p (Pigeon c) = has_few_lists p c
 refutes p Columns = has_few_columns p
 refutes p (Same t u) = have_same_columns p t u
 refutes p (Evade s) = evades p s

@@ -3,7 +3,7 @@ ghost use Rattle.lat_base.specs.Shape.{target_count};
 ghost use Rattle.deck_state.specs.PartialDeck.{PartialDeck};
 ghost use Rattle.close_rules.specs.Ballots.{may_be_blank, may_be_overvoted, lacks_blank, lacks_overvoted};
 
-use deck_state::{Mark, Partial, possible_in};
+use deck_state::{Mark, Partial};
 
 // Whether a row can become a blank ballot.
 fn may_be_blank(row: &[Mark]) -> bool
@@ -31,7 +31,7 @@ fn count_overvoted(state: &Partial, c: u16) -> u16
     let limit = state.shape().contest(c).limit;
     let mut overvoted: u16 = 0;
     for j in 0..state.ballots() {
-        overvoted += u16::from(possible_in(state.shape(), state.row(j), c) > limit);
+        overvoted += u16::from(state.possible_in(j, c) > limit);
     }
     overvoted
 }

@@ -1,25 +1,23 @@
 ghost use Rattle.std.specs.Prelude.{◌≡◌, ◌<◌, ◌≤◌, length, count_by, nat_lt};
 ghost use Rattle.std.specs.List.{sum};
-ghost use Rattle.lat_base.specs.Shape.{target_count};
-ghost use Rattle.deck_state.specs.PartialDeck.{PartialDeck};
+ghost use Rattle.deck_state.specs.PartialDeck.{PartialDeck, row_at};
 ghost use Rattle.close_rules.specs.Totals.{least_totals};
 ghost use Rattle.close_rules.specs.Capacity.{most_votes, capacity, has_no_capacity};
 
 use crate::totals::most_voting;
-use deck_state::{Mark, Partial, marked_in, possible_in};
-use lat_base::Shape;
+use deck_state::Partial;
 
-// How many votes a row can give in contest c.
-fn most_votes(shape: &Shape, c: u16, row: &[Mark]) -> u16
-    requires contest { c < length shape.now }
-    requires long { length row.now ≡ target_count shape.now }
-    ensures { result ≡ most_votes shape.now c row.now }
+// How many votes ballot j can give in contest c.
+fn most_votes(state: &Partial, c: u16, j: u16) -> u16
+    requires contest { c < length state.now.contests }
+    requires ballot { j < state.now.ballots }
+    ensures { result ≡ most_votes state.now.contests c (row_at state.now j) }
 {
-    let limit = shape.contest(c).limit;
-    if marked_in(shape, row, c) > limit {
+    let limit = state.shape().contest(c).limit;
+    if state.marked_in(j, c) > limit {
         0
     } else {
-        limit.min(possible_in(shape, row, c))
+        limit.min(state.possible_in(j, c))
     }
 }
 
@@ -31,7 +29,7 @@ fn count_above(state: &Partial, c: u16, votes: u16) -> u16
 {
     let mut above: u16 = 0;
     for j in 0..state.ballots() {
-        above += u16::from(most_votes(state.shape(), c, state.row(j)) > votes);
+        above += u16::from(most_votes(state, c, j) > votes);
     }
     above
 }

@@ -5,7 +5,7 @@ ghost use Rattle.deck_state.specs.PartialDeck.{PartialDeck};
 ghost use Rattle.close_rules.specs.Evading.{is_decided, keeps_totals, is_left, keeps_contest, evades};
 
 use crate::kept::keeps_total;
-use deck_state::{Partial, marked_in, possible_in};
+use deck_state::Partial;
 use lat_base::Shape;
 use lat_misassign::Misassignment;
 
@@ -15,8 +15,7 @@ fn is_decided(state: &Partial, c: u16) -> bool
     ensures { result ≡ is_decided state.now c }
 {
     for j in 0..state.ballots() {
-        let row = state.row(j);
-        if marked_in(state.shape(), row, c) != possible_in(state.shape(), row, c) {
+        if state.marked_in(j, c) != state.possible_in(j, c) {
             return false;
         }
     }

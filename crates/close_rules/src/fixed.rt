@@ -8,8 +8,8 @@ ghost use Rattle.close_rules.specs.Fixed.{lows, is_fixed, are_comparable, are_tw
 use deck_state::Partial;
 use std::cmp::Ordering;
 
-// Whether the totals of contest c are known.
-fn is_fixed(state: &Partial, c: u16) -> bool
+/// Whether the totals of contest c are known.
+pub fn is_fixed(state: &Partial, c: u16) -> bool
     requires { c < length state.now.contests }
     ensures { result ≡ is_fixed state.now c }
 {

@@ -11,6 +11,7 @@ mod kept;
 mod label;
 mod law;
 mod order;
+mod pigeon;
 mod reason;
 mod refuting;
 mod totals;

@@ -1,4 +1,7 @@
+ghost use Rattle.std.specs.Prelude.{◌≡◌, IfOk};
+
 use lat_misassign::Misassignment;
+use std::alloc::{AllocError, Global};
 
 /// Why no good canonical deck is left in a partial deck. Ballots, contests and targets are numbered
 /// from 0.
@@ -26,4 +29,25 @@ pub enum Reason {
     Same(u16, u16),
     /// The totals are the same under this misassignment.
     Evade(Misassignment),
+}
+
+impl Reason {
+    /// An equal reason. The only error is want of memory.
+    pub fn copy(&self, alloc: Global) -> Result<Reason, AllocError>
+        ensures { IfOk result (λ copy. copy ≡ self.now) }
+    {
+        match self {
+            Reason::Order(j) => Ok(Reason::Order(*j)),
+            Reason::Totals(c) => Ok(Reason::Totals(*c)),
+            Reason::Capacity(c) => Ok(Reason::Capacity(*c)),
+            Reason::Blank => Ok(Reason::Blank),
+            Reason::Over(c) => Ok(Reason::Over(*c)),
+            Reason::Twin(c, d) => Ok(Reason::Twin(*c, *d)),
+            Reason::ContestOrder(c, d) => Ok(Reason::ContestOrder(*c, *d)),
+            Reason::Pigeon(c) => Ok(Reason::Pigeon(*c)),
+            Reason::Columns => Ok(Reason::Columns),
+            Reason::Same(t, u) => Ok(Reason::Same(*t, *u)),
+            Reason::Evade(s) => Ok(Reason::Evade(s.copy(alloc)?)),
+        }
+    }
 }

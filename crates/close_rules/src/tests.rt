@@ -4,7 +4,8 @@ use super::*;
 use deck_state::{Mark, Partial};
 use lat_base::{Contest, Rules, Shape};
 use lat_misassign::Misassignment;
-use std::alloc::Global;
+use std::alloc::{AllocGlobal, Global};
+use std::process::Abort;
 use std::test::Fail;
 
 const ONE: Contest = Contest {
@@ -81,7 +82,7 @@ fn twins_are_fixed(rt: HostRuntime) -> Result<(), Fail> {
     assert!(rt; !refutes(&partial, &Reason::Over(2)));
     assert!(rt; !refutes(&partial, &Reason::Same(0, 4)));
     assert!(rt; !refutes(&partial, &Reason::Totals(2)));
-    assert!(rt; !refutes(&partial, &Reason::Pigeon(0)));
+    assert!(rt; !refutes(&partial, &Reason::Pigeon(2)));
     let narrow = Reason::Evade(Misassignment::swap(rt.alloc(), 3, 0, 1)?);
     assert!(rt; !refutes(&partial, &narrow));
     Ok(())
@@ -132,5 +133,72 @@ fn asked_ballots(rt: HostRuntime) -> Result<(), Fail> {
     let mut other = open(rt.alloc(), &[TWO], 1, 2)?;
     decide(&mut other, [true, false, false, true]);
     assert!(rt; refutes(&other, &Reason::Over(0)) && refutes(&other, &Reason::Blank));
+    Ok(())
+}
+
+// Contests of one vote and one target, no blank ballot asked for: their total is 0, 1, .., k, so up to
+// k + 1 of them have different ones.
+#[test]
+fn lists_are_counted(rt: HostRuntime) -> Result<(), Fail> {
+    let three = open(rt.alloc(), &[ONE, ONE, ONE], 0, 1)?;
+    assert!(rt; refutes(&three, &Reason::Pigeon(0)) && refutes(&three, &Reason::Pigeon(2)));
+    assert!(rt; cheap(&three).is_some());
+    let enough = open(rt.alloc(), &[ONE, ONE, ONE], 0, 2)?;
+    assert!(rt; !refutes(&enough, &Reason::Pigeon(0)) && !refutes(&enough, &Reason::Pigeon(3)));
+    let other = open(rt.alloc(), &[ONE, ONE, TWO], 0, 1)?;
+    assert!(rt; !refutes(&other, &Reason::Pigeon(0)));
+    Ok(())
+}
+
+// Whether there are too many contests of the shape of the first, where the rules ask for 1 of everything.
+fn refutes_by_count<R: Abort + AllocGlobal>(
+    rt: &R,
+    contests: &[Contest],
+    k: u16,
+    is_refuted: bool,
+) -> Result<(), Fail>
+    requires small { length contests.now < 2 ^ 32 }
+    requires few { k ≤ 1024 }
+{
+    let state = open(rt.alloc(), contests, 1, k)?;
+    assert_eq!(rt; refutes(&state, &Reason::Pigeon(0)), is_refuted);
+    Ok(())
+}
+
+// Lists of two different totals from 1 to S with a sum of at most S, where one ballot is blank and one
+// overvoted: one where S is 3, two where it is 4, four where it is 5. Contests of another limit don't
+// count.
+#[test]
+fn lists_of_two(rt: HostRuntime) -> Result<(), Fail> {
+    let pair = [TWO, TWO];
+    let three = [TWO, TWO, TWO];
+    let mixed = [
+        TWO,
+        Contest {
+            limit: 2,
+            targets: 2,
+        },
+    ];
+    refutes_by_count(&rt, &pair, 5, true)?;
+    refutes_by_count(&rt, &pair, 6, false)?;
+    refutes_by_count(&rt, &three, 6, true)?;
+    refutes_by_count(&rt, &three, 7, false)?;
+    refutes_by_count(&rt, &mixed, 5, false)?;
+    Ok(())
+}
+
+// The counting ends soon, whatever the numbers.
+#[test]
+fn wide_contests_are_counted(rt: HostRuntime) -> Result<(), Fail> {
+    let wide = Contest {
+        limit: 63,
+        targets: 64,
+    };
+    let state = open(rt.alloc(), &[wide, wide, wide, wide], 16, 1024)?;
+    assert!(rt; !refutes(&state, &Reason::Pigeon(3)));
+    let narrow = open(rt.alloc(), &[TWO; 128], 16, 1024)?;
+    assert!(rt; !refutes(&narrow, &Reason::Pigeon(127)));
+    let few = open(rt.alloc(), &[TWO; 128], 0, 20)?;
+    assert!(rt; refutes(&few, &Reason::Pigeon(127)));
     Ok(())
 }

@@ -52,7 +52,7 @@ fits_more n ballot deck long fits zero d h = long
 fits_more n ballot deck long fits (suc j) d h = fits j d (omega (arith, h))
 
 -- one blank ballot more
-blank_good : (contests : List Contest) (rules : RuleSet) (deck : List (List Bool)) → IsGood contests rules deck → IsGood contests rules (replicate (target_count contests) false ∷ deck)
+pub blank_good : (contests : List Contest) (rules : RuleSet) (deck : List (List Bool)) → IsGood contests rules deck → IsGood contests rules (replicate (target_count contests) false ∷ deck)
 blank_good contests rules deck good =
     let n = target_count contests in
     record {

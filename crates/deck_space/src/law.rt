@@ -1,8 +1,8 @@
-ghost use Rattle.std.specs.Prelude.{◌≡◌, ◌≤◌, ◌+◌, ℕ, Bool, List, length};
+ghost use Rattle.std.specs.Prelude.{◌≡◌, ◌≤◌, ◌+◌, ◌∷◌, ℕ, Bool, false, List, length, replicate};
 ghost use Rattle.lat_base.specs.declared.contest.Contest.{Contest};
 ghost use Rattle.lat_base.specs.Goodness.{IsGood, NoGoodBelow};
 ghost use Rattle.lat_base.specs.Rules.{RuleSet};
-ghost use Rattle.lat_base.specs.Shape.{IsShape};
+ghost use Rattle.lat_base.specs.Shape.{target_count, IsShape};
 ghost use Rattle.close_rules.specs.declared.label.Label.{Label};
 ghost use Rattle.close_rules.specs.declared.reason.Reason.{Reason};
 ghost use Rattle.close_rules.specs.Solution.{IsSolution};
@@ -27,4 +27,10 @@ pub fn checked_tree_leaves_no_good_deck()
 /// solution in the space. The call does nothing.
 pub fn shown_solution_is_value()
     ensures { (p : PartialDeck) → IsSolution p (shown p) → Solves p (marks_as_numbers p) }
+{}
+
+/// A law: a good deck with a blank ballot added is good. The call does nothing.
+pub fn padding_keeps_good()
+    ensures { (contests : List Contest) (rules : RuleSet) (deck : List (List Bool)) →
+        IsGood contests rules deck → IsGood contests rules (replicate (target_count contests) false ∷ deck) }
 {}

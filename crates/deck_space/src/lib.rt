@@ -5,8 +5,9 @@ mod allowing;
 mod decks;
 mod law;
 
+pub use allowing::is_allowed;
 pub use decks::Decks;
-pub use law::{checked_tree_leaves_no_good_deck, shown_solution_is_value};
+pub use law::{checked_tree_leaves_no_good_deck, padding_keeps_good, shown_solution_is_value};
 
 #[cfg(test)]
 mod tests;

@@ -1,11 +1,13 @@
-ghost use Rattle.std.specs.Prelude.{◌≡◌, ◌<◌, ◌≤◌, length, IfOk};
+ghost use Rattle.std.specs.Prelude.{◌≡◌, ◌<◌, ◌≤◌, ◌-◌, length, slice_get, IfOk};
 ghost use Rattle.lat_base.specs.Shape.{target_count};
 ghost use Rattle.deck_state.specs.PartialDeck.{PartialDeck, mark_at, row_at, bounds_at, empty};
 ghost use Rattle.deck_state.specs.Trail.{IsPartial};
+ghost use Rattle.deck_state.specs.Votes.{marked_in, possible_in};
 
 mod changes;
 mod totals;
 
+use crate::sheet::Sheet;
 use crate::{Bounds, Mark, Step};
 use lat_base::{Rules, Shape};
 use std::alloc::{AllocError, Global};
@@ -15,26 +17,25 @@ use std::marker::Model;
 /// the total of each target, and the steps that led to it, which can be taken back one by one.
 #[derive(Debug, Drop)]
 pub struct Partial {
-    shape: Shape,
+    sheet: Sheet,
     rules: Rules,
     ballots: u16,
-    marks: Vec<Vec<Mark>>,
     bounds: Vec<Bounds>,
     steps: Vec<Step>,
 }
 
 impl Model for Partial {
-    ghost use Rattle.std.specs.Prelude.{◌≤◌, ◌*◌, map, vec_capacity};
+    ghost use Rattle.std.specs.Prelude.{◌≤◌, ◌*◌, vec_capacity};
     ghost use Rattle.lat_base.specs.Shape.{target_count};
     ghost use Rattle.deck_state.specs.PartialDeck.{PartialDeck};
     ghost use Rattle.deck_state.specs.Trail.{IsPartial};
 
     ghost Value = { PartialDeck };
 
-    ghost view = { λ a. record { contests = a.shape; rules = a.rules; ballots = a.ballots; marks = map (λ row. row.items) a.marks.items; bounds = a.bounds.items; steps = a.steps.items } };
+    ghost view = { λ a. record { contests = a.sheet.contests; rules = a.rules; ballots = a.ballots; marks = a.sheet.marks; bounds = a.bounds.items; steps = a.steps.items } };
 
-    ghost invariant = { λ a. IsPartial (record { contests = a.shape; rules = a.rules; ballots = a.ballots; marks = map (λ row. row.items) a.marks.items; bounds = a.bounds.items; steps = a.steps.items })
-        × (2 * (a.ballots * target_count a.shape) ≤ vec_capacity a.steps) };
+    ghost invariant = { λ a. IsPartial (record { contests = a.sheet.contests; rules = a.rules; ballots = a.ballots; marks = a.sheet.marks; bounds = a.bounds.items; steps = a.steps.items })
+        × (2 * (a.ballots * target_count a.sheet.contests) ≤ vec_capacity a.steps) };
 }
 
 impl Partial {
@@ -47,16 +48,12 @@ impl Partial {
     {
         let targets = shape.targets();
         let steps = Vec::with_capacity(alloc, 2 * (k as usize * targets as usize))?;
-        let mut marks = Vec::with_capacity(alloc, k as usize)?;
-        for _ in 0..k {
-            marks.push(vec![in alloc; Mark::Undecided; targets as usize]?)?;
-        }
         let bounds = vec![in alloc; Bounds { low: 0, high: k }; targets as usize]?;
+        let sheet = Sheet::blank(alloc, shape, k)?;
         Ok(Partial {
-            shape: shape.copy(alloc)?,
+            sheet,
             rules: *rules,
             ballots: k,
-            marks,
             bounds,
             steps,
         })
@@ -67,7 +64,7 @@ impl Partial {
         ensures value { result.now ≡ self.now.contests }
         ensures partial { IsPartial self.now }
     {
-        &self.shape
+        self.sheet.shape()
     }
 
     /// The rules that the deck is to obey.
@@ -94,13 +91,20 @@ impl Partial {
         self.steps.len() as u32
     }
 
+    /// The last step that was made and not taken back, if there is one.
+    pub fn last_step(&self) -> Option<Step>
+        ensures { result ≡ slice_get self.now.steps (length self.now.steps - 1) }
+    {
+        self.steps.last().copied()
+    }
+
     /// What is known of the mark of ballot `j` at target `t`.
     pub fn mark(&self, j: u16, t: u16) -> Mark
         requires ballot { j < self.now.ballots }
         requires target { t < target_count self.now.contests }
         ensures { result ≡ mark_at self.now j t }
     {
-        self.marks[j as usize][t as usize]
+        self.sheet.mark(j, t)
     }
 
     /// What is known of the marks of ballot `j`, target by target.
@@ -109,7 +113,25 @@ impl Partial {
         ensures marks { result.now ≡ row_at self.now j }
         ensures long { length result.now ≡ target_count self.now.contests }
     {
-        self.marks[j as usize].as_slice()
+        self.sheet.row(j)
+    }
+
+    /// How many targets of contest `c` ballot `j` marks.
+    pub fn marked_in(&self, j: u16, c: u16) -> u16
+        requires ballot { j < self.now.ballots }
+        requires contest { c < length self.now.contests }
+        ensures { result ≡ marked_in self.now.contests (row_at self.now j) c }
+    {
+        self.sheet.count(j, c).marked
+    }
+
+    /// How many targets of contest `c` ballot `j` marks or leaves undecided.
+    pub fn possible_in(&self, j: u16, c: u16) -> u16
+        requires ballot { j < self.now.ballots }
+        requires contest { c < length self.now.contests }
+        ensures { result ≡ possible_in self.now.contests (row_at self.now j) c }
+    {
+        self.sheet.count(j, c).possible
     }
 
     /// The bounds that are kept for the total of target `t`.

@@ -1,10 +1,10 @@
 -- The canonical copy of a deck, as it is made.
-use Rattle.std.proofs.Common.{◌≡◌, ◌↔◌, ℕ, Bool, List, map, ap, subst, ◌∙◌, IsPermutation}
+use Rattle.std.proofs.Common.{◌≡◌, ◌↔◌, ℕ, Bool, List, length, map, ap, subst, ◌∙◌, IsPermutation}
 use Rattle.lat_base.specs.declared.contest.Contest.{Contest}
 use Rattle.lat_base.specs.Shape.{target_count}
 use Rattle.lat_base.specs.Tally.{reading}
 use Rattle.lat_base.specs.Deck.{Fits}
-use Rattle.lat_base.specs.Rules.{RuleSet}
+use Rattle.lat_base.specs.Rules.{RuleSet, Obeys}
 use Rattle.lat_base.specs.Goodness.{IsGood}
 use Rattle.lat_base.specs.Canonical.{IsCanonical}
 use Rattle.lat_ballots.specs.Deck.{Ballots, IsDeck}
@@ -12,13 +12,15 @@ use Rattle.lat_ballots.specs.Falling.{AreFalling}
 use Rattle.readings.specs.Structural.{relabelled}
 use Rattle.symmetry.specs.Reordering.{IsReordered}
 use Rattle.symmetry.specs.Ordered.{AreOrdered}
-use Rattle.symmetry.proofs.GoodDecks.{reordered_good, good_reordered}
+use Rattle.symmetry.proofs.GoodDecks.{reordered_good, good_reordered, reordered_obeys, reordered_size}
 use Rattle.symmetry.proofs.CanonicalCopies.{reordered_canonical}
 
 pub record IsCopy (contests : List Contest) (deck copy : List (List Bool)) : Type 0 where
   pub canonical : IsCanonical contests copy
   pub reordered : IsReordered contests deck copy
   pub good : (rules : RuleSet) → IsGood contests rules copy ↔ IsGood contests rules deck
+  pub obeys : (rules : RuleSet) → Obeys contests rules deck → Obeys contests rules copy
+  pub size : length copy ≡ length deck
 
 -- from targets in order and ballots in order
 pub finished : (contests : List Contest) (deck copy result : Ballots) (sources : List ℕ) → IsDeck deck → deck.targets ≡ target_count contests → AreOrdered contests deck.ballots sources
@@ -32,5 +34,7 @@ finished contests deck copy result sources is targets ordered copy_is same falli
     record {
       canonical = reordered_canonical contests deck.ballots result.ballots ordered.from fits ordered.is ballots falling ordered.rise ordered.earlier;
       reordered = reordered;
+      obeys = λ rules. reordered_obeys contests rules deck.ballots result.ballots fits reordered;
+      size = reordered_size contests deck.ballots result.ballots reordered;
       good = λ rules. (good_reordered contests rules deck.ballots result.ballots fits reordered, reordered_good contests rules deck.ballots result.ballots reordered);
     }

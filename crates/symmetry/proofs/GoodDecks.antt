@@ -5,7 +5,7 @@ use Rattle.std.specs.List.{list_all}
 use Rattle.std.proofs.lemmas.List.{take_all, map-id, same_lists, get_or-map, length-map}
 use Rattle.std.proofs.lemmas.Simd.{map-map}
 use Rattle.std.proofs.lemmas.List.Sums.{sum_by-cons}
-use Rattle.std.proofs.lemmas.List.Sorted.{IsPermutation-sym, All-permutation, sum_by-IsPermutation}
+use Rattle.std.proofs.lemmas.List.Sorted.{length_permutation, IsPermutation-sym, All-permutation, sum_by-IsPermutation}
 use Rattle.std.proofs.lemmas.Bool.Decides.{nat_tests}
 use Rattle.lat_base.specs.declared.contest.Contest.{Contest}
 use Rattle.lat_base.specs.Shape.{target_count, contest_at, contest_of, CanOvervote}
@@ -130,20 +130,24 @@ robust_permuted contests deck result same robust s is equal =
     robust s is (same_report contests deck s (identity (target_count contests)) (λ u lt.
     sym (totals_permuted contests deck result s u same) ∙ (report_same contests result s (identity (target_count contests)) u lt equal ∙ totals_permuted contests deck result (identity (target_count contests)) u same)))
 
--- a deck in another order is good where the deck is
-good_permuted : (contests : List Contest) (rules : RuleSet) (deck result : List (List Bool)) → IsPermutation deck result → IsGood contests rules deck → IsGood contests rules result
-good_permuted contests rules deck result same good =
+-- a deck in another order obeys the rules where the deck does
+obeys_permuted : (contests : List Contest) (rules : RuleSet) (deck result : List (List Bool)) → IsPermutation deck result → Obeys contests rules deck → Obeys contests rules result
+obeys_permuted contests rules deck result same obeys =
     let at : (u : ℕ) → own_total contests result u ≡ own_total contests deck u = λ u. totals_permuted contests deck result (identity (target_count contests)) u same in
     record {
-      fits = All-permutation (λ (b : List Bool). length b ≡ target_count contests) deck result same good.fits;
-      robust = robust_permuted contests deck result same good.robust;
-      obeys = record {
-        blank = omega (arith, sum_by-IsPermutation (λ (b : List Bool). cond (is_blank b) 1 0) deck result same, good.obeys.blank);
-        over = λ c lt can. omega (arith, sum_by-IsPermutation (λ (b : List Bool). cond (is_overvoted contests b c) 1 0) deck result same, good.obeys.over c lt can);
-        least = λ t lt. omega (arith, at t, good.obeys.least t lt);
-        distinct = λ on t u lt u_in together equal. good.obeys.distinct on t u lt u_in together (sym (at t) ∙ (equal ∙ at u));
-      };
+      blank = omega (arith, sum_by-IsPermutation (λ (b : List Bool). cond (is_blank b) 1 0) deck result same, obeys.blank);
+      over = λ c lt can. omega (arith, sum_by-IsPermutation (λ (b : List Bool). cond (is_overvoted contests b c) 1 0) deck result same, obeys.over c lt can);
+      least = λ t lt. omega (arith, at t, obeys.least t lt);
+      distinct = λ on t u lt u_in together equal. obeys.distinct on t u lt u_in together (sym (at t) ∙ (equal ∙ at u));
     }
+
+-- a deck in another order is good where the deck is
+good_permuted : (contests : List Contest) (rules : RuleSet) (deck result : List (List Bool)) → IsPermutation deck result → IsGood contests rules deck → IsGood contests rules result
+good_permuted contests rules deck result same good = record {
+  fits = All-permutation (λ (b : List Bool). length b ≡ target_count contests) deck result same good.fits;
+  robust = robust_permuted contests deck result same good.robust;
+  obeys = obeys_permuted contests rules deck result same good.obeys;
+}
 
 -- a reordered deck is good where the deck is
 pub reordered_good : (contests : List Contest) (rules : RuleSet) (deck result : List (List Bool)) → IsReordered contests deck result → IsGood contests rules deck → IsGood contests rules result
@@ -159,3 +163,14 @@ good_reordered contests rules deck result fits is good =
     subst (IsGood contests rules) (relabelled_back n is.source is.targets.back deck is.targets.turns fits)
     (good_relabelled contests rules (relabelled n is.source deck) is.targets.back is.source is.targets.turn_back turned is.targets.returns
     (good_permuted contests rules result (relabelled n is.source deck) (IsPermutation-sym (relabelled n is.source deck) result is.ballots) good))
+
+-- a reordered deck obeys the rules where the deck does
+pub reordered_obeys : (contests : List Contest) (rules : RuleSet) (deck result : List (List Bool)) → Fits (target_count contests) deck → IsReordered contests deck result → Obeys contests rules deck → Obeys contests rules result
+reordered_obeys contests rules deck result fits is obeys =
+    obeys_permuted contests rules (relabelled (target_count contests) is.source deck) result is.ballots
+    (obeys_relabelled contests rules deck is.source is.targets.back is.targets.turn is.targets.turns is.targets.forth fits obeys)
+
+-- it has as many ballots
+pub reordered_size : (contests : List Contest) (deck result : List (List Bool)) → IsReordered contests deck result → length result ≡ length deck
+reordered_size contests deck result is =
+    length_permutation (relabelled (target_count contests) is.source deck) result is.ballots ∙ length-map deck (λ (b : List Bool). reading b (made (target_count contests) is.source))

@@ -3,7 +3,11 @@ pub mod InOrder
 pub mod Swaps
 pub mod ContestPlaces
 pub mod GoodDecks
+pub mod Copies
+pub mod Falls
 pub mod CanonicalDecks
+pub mod PlainBallots
+pub mod PlainDeck
 pub mod Orders
 pub mod CanonicalCopies
 pub mod Partly

@@ -2,7 +2,7 @@ ghost use Rattle.std.specs.Prelude.{◌≡◌, ◌↔◌, length, IfOk};
 ghost use Rattle.lat_base.specs.Shape.{target_count};
 ghost use Rattle.lat_base.specs.Canonical.{IsCanonical};
 ghost use Rattle.lat_base.specs.Goodness.{IsGood};
-ghost use Rattle.lat_base.specs.Rules.{RuleSet};
+ghost use Rattle.lat_base.specs.Rules.{RuleSet, Obeys};
 ghost use Rattle.symmetry.specs.Reordering.{IsReordered};
 ghost use Rattle.symmetry.specs.Counted.{IsMoved, total_at};
 ghost use Rattle.symmetry.specs.Ordered.{AreOrdered};
@@ -39,13 +39,16 @@ fn ordered_targets(alloc: Global, shape: &Shape, deck: &Deck) -> Result<Vec<u16>
 }
 
 /// The canonical deck that arises by reordering the deck's ballots, the targets within its contests,
-/// and contests of the same limit and number of targets. It is good exactly where the given deck is,
-/// under any rules. After want of memory the given deck is dropped.
+/// and contests of the same limit and number of targets. It has as many ballots; under any rules it is
+/// good exactly where the given deck is, and obeys them where that deck does. After want of memory the
+/// given deck is dropped.
 pub fn canonical(alloc: Global, shape: &Shape, deck: Deck) -> Result<Deck, AllocError>
     requires { deck.targets ≡ target_count shape.now }
     ensures canonical { IfOk result (λ copy. IsCanonical shape.now copy.ballots) }
     ensures reordered { IfOk result (λ copy. IsReordered shape.now deck.ballots copy.ballots) }
     ensures good { IfOk result (λ copy. (rules : RuleSet) → IsGood shape.now rules copy.ballots ↔ IsGood shape.now rules deck.ballots) }
+    ensures obeys { IfOk result (λ copy. (rules : RuleSet) → Obeys shape.now rules deck.ballots → Obeys shape.now rules copy.ballots) }
+    ensures size { IfOk result (λ copy. length copy.ballots ≡ length deck.ballots) }
     ensures targets { IfOk result (λ copy. copy.targets ≡ deck.targets) }
 {
     let sources = ordered_targets(alloc, shape, &deck)?;

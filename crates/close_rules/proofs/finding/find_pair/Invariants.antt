@@ -5,4 +5,4 @@ use Rattle.close_rules.proofs.finding.find_pair.Given as goal
 
 -- none before here holds
 abbrev pub invariant-loop-c : goal.invariant-loop-c
-invariant-loop-c l = (k : ℕ) → k < l.c → (d : ℕ) → (refutes l.state (Twin k d) ≡ false) × (refutes l.state (ContestOrder k d) ≡ false)
+invariant-loop-c l = (k : ℕ) → k < l.c → (d : ℕ) → k < d → (refutes l.state (Twin k d) ≡ false) × (refutes l.state (ContestOrder k d) ≡ false)

@@ -6,6 +6,7 @@ returns-clause-none c = λ none.
     none_holds c.args.state.now (record {
       columns = c.tested.ensures.none c.in_default.is;
       blank = c.tested-2.ensures.none c.in_default-tested.is;
+      pigeon = c.find_pigeon.ensures.none c.in_default-find_pigeon.is;
       order = c.find_order.ensures.none c.in_default-find_order.is;
       contest = c.find_contest.ensures.none c.in_default-find_contest.is;
       same = c.find_same.ensures.none c.in_default-find_same.is;

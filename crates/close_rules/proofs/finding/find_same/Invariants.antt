@@ -5,4 +5,4 @@ use Rattle.close_rules.proofs.finding.find_same.Given as goal
 
 -- none before here holds
 abbrev pub invariant-loop-t : goal.invariant-loop-t
-invariant-loop-t l = (k : ℕ) → k < l.t → (u : ℕ) → refutes l.state (Same k u) ≡ false
+invariant-loop-t l = (k : ℕ) → k < l.t → (u : ℕ) → k < u → refutes l.state (Same k u) ≡ false

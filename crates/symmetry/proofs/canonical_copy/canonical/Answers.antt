@@ -41,3 +41,9 @@ pub returns-clause-targets : goal.returns-clause-targets
 returns-clause-targets c =
     c.sort_rows.ensures.targets ∙ (ap (λ (d : Ballots). d.targets) c.in_ok-copy.ensures
     ∙ (ap length c.as_slice.ensures.value ∙ (ordered_long c.args.shape.now c.args.deck.ballots c.in_ok-sources.sources.items c.in_ok-sources.ensures ∙ sym c.requires)))
+
+pub returns-clause-obeys : goal.returns-clause-obeys
+returns-clause-obeys c = (copied c).obeys
+
+pub returns-clause-size : goal.returns-clause-size
+returns-clause-size c = (copied c).size

@@ -1,0 +1,9 @@
+pub mod Rounds
+pub mod Offset
+pub mod Raised
+pub mod WorkingRows
+pub mod PatternRows
+pub mod Obeyed
+pub mod Places
+pub mod Filled
+pub mod Laying

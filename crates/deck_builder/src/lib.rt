@@ -1,0 +1,16 @@
+//! Decks of given patterns, which obey the rules.
+#![tactic(auto)]
+
+mod counts;
+mod fitting;
+mod laid;
+mod law;
+mod mode;
+mod proposal;
+mod runs;
+
+pub use law::{marks_are_spread, patterns_obey, working_ballots_are_counted};
+pub use proposal::propose;
+
+#[cfg(test)]
+mod tests;
