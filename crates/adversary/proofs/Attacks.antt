@@ -1,5 +1,5 @@
 -- Decks that nothing evades.
-use Rattle.std.proofs.Common.{◌≡◌, ◌≢◌, ◌⊎◌, inl, inr, ℕ, Bool, true, false, Some, None, List, length, refl, ap, sym, subst, ◌∙◌}
+use Rattle.std.proofs.Common.{◌≡◌, ◌≢◌, ◌<◌, ◌*◌, ◌⊎◌, inl, inr, ℕ, Bool, true, false, Some, None, List, length, refl, ap, sym, subst, ◌∙◌}
 use Rattle.std.specs.Prelude.{if◌then◌else◌}
 use Rattle.std.specs.Str.{bytes_eq}
 use Rattle.std.proofs.lemmas.Slice.Eq.{bytes_eq-Decides}
@@ -11,9 +11,12 @@ use Rattle.evade_space.specs.Sources.{is_free}
 use Rattle.evade_space.specs.PartialMisassignment.{PartialMisassignment}
 use Rattle.evade_space.specs.Sought.{Sought, Evades, own_sought, start}
 use Rattle.evade_space.specs.Kids.{kids_of}
-use Rattle.evade_space.specs.Steps.{IsSolution, evade_steps}
+use Rattle.evade_space.specs.Steps.{IsEvadeState, IsSolution, evade_steps}
+use Rattle.evade_space.specs.Trees.{IsRobustTree, IsOpenAttack, factorial}
+use Rattle.tree_search.specs.Outcome.{IsOpenTree}
+use Rattle.evade_space.proofs.AttackBounds.{open_attack_few}
 use Rattle.tree_core.specs.declared.node.Node.{Node}
-use Rattle.tree_core.specs.Reading.{tree_of}
+use Rattle.tree_core.specs.Reading.{tree_of, IsTree}
 use Rattle.tree_core.specs.Checks.{Checks}
 use Rattle.evade_space.specs.declared.skipped.Skipped.{Skipped}
 use Rattle.evade_space.proofs.Start.{nothing_at}
@@ -39,13 +42,24 @@ is_robust contests deck none s is same = elim (alike s (identity (target_count c
 
 -- a tree of the deck's own space that checks
 pub closed : (contests : List Contest) (deck : List (List Bool)) (space : Sought) (state : PartialMisassignment) (tree : List (Node ℕ Skipped)) → space ≡ own_sought contests deck → state ≡ start space
-    → Checks (evade_steps space) state (tree_of tree) → ((v : List ℕ) → IsSolution space state v → ⊥)
-    → IsRobust contests deck × Checks (evade_steps (own_sought contests deck)) (start (own_sought contests deck)) (tree_of tree)
-closed contests deck space state tree is begins checks none =
+    → IsTree tree → Checks (evade_steps space) state (tree_of tree) → ((v : List ℕ) → IsSolution space state v → ⊥) → IsRobust contests deck × IsRobustTree contests deck tree
+closed contests deck space state tree is begins lists checks none =
     let at : state ≡ start (own_sought contests deck) = begins ∙ ap start is in (
       is_robust contests deck (λ v solved. none v (subst (λ (x : Sought). IsSolution x state v) (sym is) (subst (λ (y : PartialMisassignment). IsSolution (own_sought contests deck) y v) (sym at) solved))),
-      subst (λ (y : PartialMisassignment). Checks (evade_steps (own_sought contests deck)) y (tree_of tree)) at (subst (λ (x : Sought). Checks (evade_steps x) state (tree_of tree)) is checks),
+      record {
+        lists = lists;
+        checks = subst (λ (y : PartialMisassignment). Checks (evade_steps (own_sought contests deck)) y (tree_of tree)) at (subst (λ (x : Sought). Checks (evade_steps x) state (tree_of tree)) is checks);
+      },
     )
+
+-- an open tree of the deck's own space, and what its nodes can't be as many as
+pub spent : (contests : List Contest) (deck : List (List Bool)) (space : Sought) (state : PartialMisassignment) (budget : ℕ) (tree : List (Node ℕ Skipped)) → space ≡ own_sought contests deck → state ≡ start space
+    → IsEvadeState space state → IsOpenTree (evade_steps space) state budget tree → IsOpenAttack contests deck budget tree × (budget < 3 * factorial (target_count contests))
+spent contests deck space state budget tree is begins own left_open =
+    let at : state ≡ start (own_sought contests deck) = begins ∙ ap start is in
+    let tree_is = subst (λ (y : PartialMisassignment). IsOpenTree (evade_steps (own_sought contests deck)) y budget tree) at (subst (λ (x : Sought). IsOpenTree (evade_steps x) state budget tree) is left_open) in
+    let own_is = subst (IsEvadeState (own_sought contests deck)) at (subst (λ (x : Sought). IsEvadeState x state) is own) in
+    (tree_is, open_attack_few (own_sought contests deck) budget tree own_is tree_is)
 
 -- what is found in the deck's own space evades it
 pub found : (contests : List Contest) (deck : List (List Bool)) (space : Sought) (state : PartialMisassignment) (s v : List ℕ) → space ≡ own_sought contests deck → state ≡ start space

@@ -1,6 +1,7 @@
-ghost use Rattle.std.specs.Prelude.{◌≡◌, ◌≤◌, IfOk};
+ghost use Rattle.std.specs.Prelude.{◌≡◌, ◌≤◌, ◌*◌, IfOk};
 ghost use Rattle.lat_base.specs.Shape.{target_count};
-ghost use Rattle.adversary.specs.Attack.{IsAttack};
+ghost use Rattle.evade_space.specs.Trees.{factorial};
+ghost use Rattle.adversary.specs.Attack.{IsAttack, IsEnded};
 
 use crate::chooser::InOrder;
 use crate::exchange::find_exchange;
@@ -26,7 +27,8 @@ pub enum Attacked {
 
 /// Searches for a misassignment, not the identity, that leaves every total of a deck as it is: first
 /// among the exchanges of two targets and of two whole contests, and then by a tree of at most
-/// `budget` Close and Fork nodes. Which one is found is left open. The only error is want of memory.
+/// `budget` Close and Fork nodes. Which one is found is left open. A budget of three times the
+/// factorial of the number of targets is never spent. The only error is want of memory.
 pub fn attack(
     alloc: Global,
     shape: &Shape,
@@ -35,7 +37,10 @@ pub fn attack(
 ) -> Result<Attacked, AllocError>
     requires deck { deck.now.targets ≡ target_count shape.now }
     requires budget { 1 ≤ budget }
-    ensures { IfOk result (IsAttack shape.now deck.now.ballots budget) }
+    ensures attack { IfOk result (IsAttack shape.now deck.now.ballots budget) }
+
+    // An ample budget isn't spent.
+    ensures ample { 3 * factorial (target_count shape.now) ≤ budget → IfOk result IsEnded }
 {
     if let Some(s) = find_exchange(alloc, shape, deck)? {
         return Ok(Attacked::Evaded(s));
@@ -48,7 +53,10 @@ pub fn attack(
     let outcome = search(alloc, &space, &mut chooser, &mut state, budget)?;
     match outcome {
         Outcome::Found(s) => Ok(Attacked::Evaded(s)),
-        Outcome::Closed(tree) => Ok(Attacked::Robust(tree)),
+        Outcome::Closed(tree) => {
+            tree.lists_a_tree();
+            Ok(Attacked::Robust(tree))
+        }
         Outcome::Spent(tree) => Ok(Attacked::Spent(tree)),
         Outcome::Halted(_, _) => unreachable!(),
     }

@@ -1,0 +1,32 @@
+use Rattle.std.proofs.Common.{◌≡◌, ◌∙◌, ap, arith, length}
+use Rattle.lat_base.specs.Shape.{contest_at}
+use Rattle.evade_space.proofs.KeptLost.{Moves}
+use Rattle.evade_space.proofs.MovedMarks.{row_falls, free_rises, row_some, free_few, lost_then}
+use Rattle.evade_space.proofs.counts.free_row.Goals as goal
+
+moved : (c : goal.After-lost_of-after) → Moves c.args.space.now c.args.sources.now c.args.u c.args.t c.lost_of-after.result c.lost_of-before.result
+moved c =
+    lost_then c.args.space.now c.args.sources.now c.args.u c.args.t c.requires.giving c.limit_of-limit.result c.lost_of-after.result c.lost_of-before.result c.as_slice-2.result.now c.as_slice.result.now c.ballots-ballots.ensures.sought
+    (c.limit_of-limit.ensures ∙ (λ i. (contest_at c.args.space.now.contests (c.contest_of.ensures.value i)).limit))
+    c.lost_of-after.ensures.sum
+    (c.as_slice-2.ensures.value ∙ row_falls c.args.space.now c.args.sources.now c.args.u c.args.t c.requires.giving c.args.row.now.items c.move_marks.new.from.items c.requires.row c.move_marks.ensures.from_long c.move_marks.ensures.fewer)
+    c.lost_of-before.ensures.sum (c.as_slice.ensures.value ∙ c.requires.row)
+
+pub move_marks-requires-clause-some : goal.move_marks-requires-clause-some
+move_marks-requires-clause-some c = row_some c.args.space.now c.args.sources.now c.args.u c.args.t c.requires.giving c.args.row.now.items c.requires.row
+
+pub move_marks-requires-clause-few : goal.move_marks-requires-clause-few
+move_marks-requires-clause-few c = free_few c.args.space.now c.args.sources.now c.args.u c.args.t c.requires.giving c.args.free.now.items c.requires.free
+
+pub overflow_add-result : goal.overflow_add-result
+overflow_add-result c = let m = moved c in omega (arith, m.few_back, c.requires.kept)
+
+pub overflow_sub-result : goal.overflow_sub-result
+overflow_sub-result c = let m = moved c in omega (arith, m.less_back, c.requires.kept)
+
+pub returns : goal.returns
+returns c = let m = moved c in record {
+  free = free_rises c.args.space.now c.args.sources.now c.args.u c.args.t c.requires.giving c.args.free.now.items c.move_marks.new.to.items c.requires.free c.move_marks.ensures.to_long c.move_marks.ensures.more;
+  row = row_falls c.args.space.now c.args.sources.now c.args.u c.args.t c.requires.giving c.args.row.now.items c.move_marks.new.from.items c.requires.row c.move_marks.ensures.from_long c.move_marks.ensures.fewer;
+  lost = omega (arith, m.kept_back, c.requires.kept);
+}
