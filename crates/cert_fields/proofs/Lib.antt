@@ -1,0 +1,12 @@
+pub mod Contests
+pub mod Exact
+pub mod Fields
+pub mod HeadParts
+pub mod Heads
+pub mod Limits
+pub mod Loop
+pub mod Marks
+pub mod PartLists
+pub mod Sources
+pub mod Tagged
+pub mod TreeBytes

@@ -1,0 +1,9 @@
+pub mod CertValue
+pub mod Claim
+pub mod Fitting
+pub mod Holding
+pub mod License
+pub mod Lower
+pub mod LowerPart
+pub mod OpenValue
+pub mod Proved
