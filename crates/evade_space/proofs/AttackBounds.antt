@@ -9,8 +9,8 @@ use Rattle.std.proofs.lemmas.List.FromFn.{length-range_with_len}
 use Rattle.std.proofs.lemmas.List.Sums.{sum_by-append, sum_by-cons, length-filter}
 use Rattle.std.proofs.Math.Nat.{mul-le-mul_left, mul-le-mul_right}
 use Rattle.lat_base.specs.Shape.{target_count}
-use Rattle.readings.proofs.Counting.{count_le}
-use Rattle.readings.proofs.Ranges.{count_more}
+use Rattle.lemmas.proofs.Counting.{count_le}
+use Rattle.lemmas.proofs.Ranges.{count_more}
 use Rattle.evade_space.specs.declared.skipped.Skipped.{Skipped}
 use Rattle.evade_space.specs.Dead.{is_dead}
 use Rattle.evade_space.specs.Kids.{can_get, kids_of}

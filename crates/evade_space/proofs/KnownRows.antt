@@ -5,7 +5,7 @@ use Rattle.std.proofs.lemmas.List.Sums.{count_by-le-length}
 use Rattle.lat_base.specs.declared.contest.Contest.{Contest}
 use Rattle.lat_base.specs.Shape.{first_target, contest_of}
 use Rattle.lat_base.specs.Tally.{is_marked, is_overvoted}
-use Rattle.readings.proofs.Counting.{count_alike, none_pass, range_le_all}
+use Rattle.lemmas.proofs.Counting.{count_alike, none_pass, range_le_all}
 use Rattle.evade_space.specs.Sources.{source_at}
 use Rattle.evade_space.specs.Seen.{is_seen, seen, taken, free_marks, most_marks}
 use Rattle.evade_space.specs.Votes.{may_vote_on, may_vote, must_vote_on, must_vote}

@@ -68,7 +68,7 @@ fn count_must(space: &Evade, sources: &[Option<u16>], u: u16) -> u32
 }
 
 /// All counts of the deck under these sources.
-#[tactic(auto, using(readings::proofs::Ranges::made_more))]
+#[tactic(auto, using(lemmas::proofs::Ranges::made_more))]
 pub fn count_all(alloc: Global, space: &Evade, sources: &[Option<u16>]) -> Result<KeptCounts, AllocError>
     requires { AreGiven (target_count space.now.contests) sources.now }
     ensures { IfOk result (λ counts. counts ≡ counts_of space.now.contests space.now.deck sources.now) }
