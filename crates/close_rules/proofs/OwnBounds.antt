@@ -1,14 +1,13 @@
 -- Where no cheap reason holds of a complete partial deck, none holds of it with bounds that say nothing.
-use Rattle.std.proofs.Common.{◌≡◌, ◌+◌, ◌<◌, ◌≤◌, ◌&&◌, ◌⊎◌, inl, inr, ℕ, zero, suc, Bool, true, false, nat_lt, min, max, List, [], ◌∷◌, length, get_or, map, replicate, refl, ap, sym, subst, ◌∙◌, arith}
-use Rattle.std.specs.Prelude.{◌==◌, if◌then◌else◌}
+use Rattle.std.proofs.Common.{◌≡◌, ◌<◌, ◌≤◌, ◌&&◌, inl, inr, ℕ, suc, Bool, false, nat_lt, min, max, List, [], ◌∷◌, length, get_or, map, replicate, refl, ap, sym, ◌∙◌, arith}
+use Rattle.std.specs.Prelude.{◌==◌}
 use Rattle.std.specs.List.{list_all, sum}
 use Rattle.std.specs.Ordering.{nat_cmp, is_eq, is_gt}
 use Rattle.std.specs.Cmp.Lexicographic.{slice_cmp}
 use Rattle.std.proofs.lemmas.Bool.{cases_lt}
-use Rattle.std.proofs.lemmas.List.{get_or_past, get_or-replicate, length-replicate, length-map}
+use Rattle.std.proofs.lemmas.List.{get_or_past, get_or-replicate, length-replicate}
 use Rattle.std.proofs.lemmas.List.Sums.{count_by-le-length}
 use Rattle.lat_base.specs.Shape.{target_count, contest_at}
-use Rattle.lat_base.specs.Tally.{own_total}
 use Rattle.readings.specs.Structural.{targets_of}
 use Rattle.deck_state.specs.declared.bounds.Bounds.{Bounds}
 use Rattle.deck_state.specs.declared.mark.Mark.{Mark}

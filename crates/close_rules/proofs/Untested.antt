@@ -14,8 +14,8 @@ use Rattle.deck_state.specs.PartialDeck.{PartialDeck, mark_at}
 use Rattle.deck_state.specs.Trail.{IsPartial}
 use Rattle.close_rules.specs.Columns.{is_same, has_same, have_same_columns}
 use Rattle.close_rules.specs.Fixed.{lows, has_shape_of, is_fixed, are_comparable, are_twins, are_out_of_order}
-use Rattle.close_rules.specs.Pigeon.{rising_lists, lists_of_totals, alike_count, has_few_lists}
-use Rattle.close_rules.specs.Totals.{can_overvote, most_voting}
+use Rattle.close_rules.specs.Pigeon.{rising_lists, has_few_lists}
+use Rattle.close_rules.specs.Totals.{can_overvote}
 
 -- a fact that has its parts in another order
 none_and : (a : Bool) → (a && false) ≡ false

@@ -36,7 +36,10 @@ fn find_order(state: &Partial) -> Option<Reason>
 
 // A contest whose totals can't be, or have no room, or that too few ballots overvote.
 fn find_in_contest(state: &Partial, c: u16) -> Option<Reason>
-    ensures none { result ≡ None → (refutes state.now (Reason.Totals c) ≡ false) × (refutes state.now (Reason.Capacity c) ≡ false) × (refutes state.now (Reason.Over c) ≡ false) }
+    ensures none { result ≡ None →
+        (refutes state.now (Reason.Totals c) ≡ false) ×
+        (refutes state.now (Reason.Capacity c) ≡ false) ×
+        (refutes state.now (Reason.Over c) ≡ false) }
     ensures some { (r : Reason) → result ≡ Some r → Closes state.now r }
 {
     if let Some(reason) = tested(state, Reason::Totals(c)) {
@@ -49,7 +52,10 @@ fn find_in_contest(state: &Partial, c: u16) -> Option<Reason>
 }
 
 fn find_contest(state: &Partial) -> Option<Reason>
-    ensures none { result ≡ None → (c : ℕ) → (refutes state.now (Reason.Totals c) ≡ false) × (refutes state.now (Reason.Capacity c) ≡ false) × (refutes state.now (Reason.Over c) ≡ false) }
+    ensures none { result ≡ None → (c : ℕ) →
+        (refutes state.now (Reason.Totals c) ≡ false) ×
+        (refutes state.now (Reason.Capacity c) ≡ false) ×
+        (refutes state.now (Reason.Over c) ≡ false) }
     ensures some { (r : Reason) → result ≡ Some r → Closes state.now r }
 {
     for c in 0..state.shape().contests() {
@@ -62,7 +68,9 @@ fn find_contest(state: &Partial) -> Option<Reason>
 
 // Two contests that are twins, or out of order.
 fn find_in_pair(state: &Partial, c: u16, d: u16) -> Option<Reason>
-    ensures none { result ≡ None → (refutes state.now (Reason.Twin c d) ≡ false) × (refutes state.now (Reason.ContestOrder c d) ≡ false) }
+    ensures none { result ≡ None →
+        (refutes state.now (Reason.Twin c d) ≡ false) ×
+        (refutes state.now (Reason.ContestOrder c d) ≡ false) }
     ensures some { (r : Reason) → result ≡ Some r → Closes state.now r }
 {
     if let Some(reason) = tested(state, Reason::Twin(c, d)) {
@@ -74,7 +82,9 @@ fn find_in_pair(state: &Partial, c: u16, d: u16) -> Option<Reason>
 // The same with a contest after c, whose totals are known.
 fn find_pair_with(state: &Partial, c: u16) -> Option<Reason>
     requires { c < length state.now.contests }
-    ensures none { result ≡ None → (d : ℕ) → c < d → (refutes state.now (Reason.Twin c d) ≡ false) × (refutes state.now (Reason.ContestOrder c d) ≡ false) }
+    ensures none { result ≡ None → (d : ℕ) → c < d →
+        (refutes state.now (Reason.Twin c d) ≡ false) ×
+        (refutes state.now (Reason.ContestOrder c d) ≡ false) }
     ensures some { (r : Reason) → result ≡ Some r → Closes state.now r }
 {
     let contests = state.shape().contests();
@@ -89,7 +99,9 @@ fn find_pair_with(state: &Partial, c: u16) -> Option<Reason>
 // The same with a contest after c.
 fn find_pair_from(state: &Partial, c: u16) -> Option<Reason>
     requires { c < length state.now.contests }
-    ensures none { result ≡ None → (d : ℕ) → c < d → (refutes state.now (Reason.Twin c d) ≡ false) × (refutes state.now (Reason.ContestOrder c d) ≡ false) }
+    ensures none { result ≡ None → (d : ℕ) → c < d →
+        (refutes state.now (Reason.Twin c d) ≡ false) ×
+        (refutes state.now (Reason.ContestOrder c d) ≡ false) }
     ensures some { (r : Reason) → result ≡ Some r → Closes state.now r }
 {
     if is_fixed(state, c) {
@@ -100,7 +112,9 @@ fn find_pair_from(state: &Partial, c: u16) -> Option<Reason>
 }
 
 fn find_pair(state: &Partial) -> Option<Reason>
-    ensures none { result ≡ None → (c d : ℕ) → c < d → (refutes state.now (Reason.Twin c d) ≡ false) × (refutes state.now (Reason.ContestOrder c d) ≡ false) }
+    ensures none { result ≡ None → (c d : ℕ) → c < d →
+        (refutes state.now (Reason.Twin c d) ≡ false) ×
+        (refutes state.now (Reason.ContestOrder c d) ≡ false) }
     ensures some { (r : Reason) → result ≡ Some r → Closes state.now r }
 {
     for c in 0..state.shape().contests() {
@@ -162,7 +176,8 @@ fn find_same(state: &Partial) -> Option<Reason>
 // Whether a contest before c has its limit and number of targets.
 fn is_alike_before(state: &Partial, c: u16) -> bool
     requires { c < length state.now.contests }
-    ensures { result ≡ true → (d : ℕ) × (d < c) × (contest_at state.now.contests d ≡ contest_at state.now.contests c) }
+    ensures { result ≡ true → (d : ℕ) × (d < c) ×
+        (contest_at state.now.contests d ≡ contest_at state.now.contests c) }
 {
     let _contests = state.shape().contests();
     for d in 0..c {
@@ -176,7 +191,9 @@ fn is_alike_before(state: &Partial, c: u16) -> bool
 // Whether contest c is one of too many of its shape, which is tested at the first of them.
 fn find_pigeon_at(state: &Partial, c: u16) -> Option<Reason>
     requires { c < length state.now.contests }
-    ensures none { result ≡ None → ((d : ℕ) → d < c → refutes state.now (Reason.Pigeon d) ≡ false) → refutes state.now (Reason.Pigeon c) ≡ false }
+    ensures none { result ≡ None →
+        ((d : ℕ) → d < c → refutes state.now (Reason.Pigeon d) ≡ false) →
+        refutes state.now (Reason.Pigeon c) ≡ false }
     ensures some { (r : Reason) → result ≡ Some r → Closes state.now r }
 {
     if is_alike_before(state, c) {

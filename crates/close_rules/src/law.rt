@@ -11,7 +11,6 @@ ghost use Rattle.deck_state.specs.Shown.{IsComplete, decided_as, shown};
 ghost use Rattle.deck_state.specs.Trail.{IsPartial};
 ghost use Rattle.close_rules.specs.declared.label.Label.{Label};
 ghost use Rattle.close_rules.specs.declared.reason.Reason.{Reason};
-
 ghost use Rattle.close_rules.specs.Moves.{is_allowed, kid_of};
 ghost use Rattle.close_rules.specs.Refutes.{refutes, IsCheap};
 ghost use Rattle.close_rules.specs.Solution.{IsSolution};
@@ -37,7 +36,12 @@ pub fn kids_share_solutions()
 /// reason. The call does nothing.
 pub fn complete_is_judged()
     ensures solution { (p : PartialDeck) → IsPartial p → IsComplete p → IsRobust p.contests (shown p) → ((r : Reason) → IsCheap r → refutes p r ≡ false) → IsSolution p (shown p) }
-    ensures left { (p : PartialDeck) → IsPartial p → IsComplete p → ((r : Reason) → IsCheap r → refutes p r ≡ false) → Obeys p.contests p.rules (shown p) × IsCanonical p.contests (shown p) }
-    ensures own_bounds { (p : PartialDeck) → IsPartial p → IsComplete p → ((r : Reason) → IsCheap r → refutes p r ≡ false) → (r : Reason) → IsCheap r → refutes (decided_as p.contests p.rules p.ballots (shown p)) r ≡ false }
+    ensures left { (p : PartialDeck) → IsPartial p → IsComplete p →
+        ((r : Reason) → IsCheap r → refutes p r ≡ false) →
+        Obeys p.contests p.rules (shown p) × IsCanonical p.contests (shown p) }
+    ensures own_bounds { (p : PartialDeck) → IsPartial p → IsComplete p →
+        ((r : Reason) → IsCheap r → refutes p r ≡ false) →
+        (r : Reason) → IsCheap r →
+        refutes (decided_as p.contests p.rules p.ballots (shown p)) r ≡ false }
     ensures evaded { (p : PartialDeck) (s : List ℕ) → IsPartial p → IsComplete p → IsMisassignment (target_count p.contests) s → s ≢ identity (target_count p.contests) → report p.contests (shown p) s ≡ report p.contests (shown p) (identity (target_count p.contests)) → refutes p (Reason.Evade s) ≡ true }
 {}

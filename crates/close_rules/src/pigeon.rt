@@ -39,7 +39,9 @@ fn least_sum(from: u16, n: u16) -> u32
 fn count_lists(most: u16, n: u16, gap: u16, spare: u32) -> u16
     requires short { n + gap ≤ 2048 }
     ensures few { result ≤ most }
-    ensures count { (from : ℕ) → result ≡ min most (length (rising_lists n from (n + gap) (sum (range_with_len from n) + spare))) }
+    ensures count { (from : ℕ) →
+        let room = sum (range_with_len from n) + spare in
+        result ≡ min most (length (rising_lists n from (n + gap) room)) }
 {
     if n == 0 {
         return most.min(1);

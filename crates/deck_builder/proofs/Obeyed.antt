@@ -1,20 +1,15 @@
 -- The deck of a pattern that fits obeys the rules.
-use Rattle.std.proofs.Common.{◌≡◌, ◌+◌, ◌-◌, ◌*◌, ◌<◌, ◌&&◌, ◌++◌, ℕ, Bool, true, false, not, List, [], ◌∷◌, length, get_or, replicate, cond, count_by, map, subst, refl, ap, sym, ◌∙◌, arith}
+use Rattle.std.proofs.Common.{◌≡◌, ◌+◌, ◌-◌, ◌*◌, ◌<◌, ◌++◌, ℕ, Bool, true, false, not, List, length, get_or, cond, count_by, subst, ap, sym, ◌∙◌, arith}
 use Rattle.std.specs.List.{range_with_len}
-use Rattle.std.proofs.lemmas.Bool.{lt-ltb}
-use Rattle.std.proofs.lemmas.List.{length-replicate, get_or-replicate}
+use Rattle.std.proofs.lemmas.List.{length-replicate}
 use Rattle.std.proofs.lemmas.List.Elements.{All-append, All-map, All-replicate}
-use Rattle.std.proofs.lemmas.List.Folds.{sum_by-replicate}
-use Rattle.std.proofs.lemmas.List.FromFn.{get_or-range_with_len, length-range_with_len}
-use Rattle.std.proofs.lemmas.List.Sums.{sum_by-append, sum_by-cons, list_all-from_AllPass}
+use Rattle.std.proofs.lemmas.List.Sums.{sum_by-append}
 use Rattle.lat_base.specs.Deck.{Fits as FitTargets}
 use Rattle.lat_base.specs.Misassignment.{identity}
 use Rattle.lat_base.specs.Rules.{Obeys, is_blank}
 use Rattle.lat_base.specs.Shape.{target_count, first_target, contest_at, contest_of}
-use Rattle.lat_base.specs.Tally.{is_marked, mark_count, is_overvoted, reading, votes_for, own_total}
-use Rattle.readings.specs.Structural.{targets_of}
+use Rattle.lat_base.specs.Tally.{is_overvoted, reading, votes_for, own_total}
 use Rattle.lemmas.proofs.Counting.{count_alike, count_map}
-use Rattle.readings.proofs.Marks.{marks_are}
 use Rattle.readings.proofs.Places.{IsOf, is_of, nth_is_of, nth_within, contest_is, first_next}
 use Rattle.readings.proofs.Readings.{reading_identity}
 use Rattle.symmetry.proofs.Copies.{copies_that, all_copies, no_copies, full_overvoted, full_votes as votes_of_full, unmarked_blank, unmarked_votes}

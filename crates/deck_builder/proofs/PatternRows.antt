@@ -1,11 +1,11 @@
 -- The ballots of a pattern, one by one.
-use Rattle.std.proofs.Common.{◌≡◌, ◌+◌, ◌-◌, ◌<◌, ◌≤◌, ◌++◌, ℕ, Bool, true, false, List, [], length, get_or, replicate, map, ap, sym, ◌∙◌, arith}
+use Rattle.std.proofs.Common.{◌≡◌, ◌+◌, ◌-◌, ◌<◌, ◌≤◌, ◌++◌, ℕ, Bool, true, false, List, [], length, get_or, replicate, map, ap, ◌∙◌, arith}
 use Rattle.std.specs.List.{range_with_len}
 use Rattle.std.proofs.lemmas.List.{get_or_append_left, get_or-append_right, get_or-replicate, length-append, length-replicate}
 use Rattle.std.proofs.lemmas.List.FromFn.{get_or-map-range_with_len, length-map-range_with_len}
 use Rattle.lat_base.specs.Shape.{target_count, first_target, contest_of}
 use Rattle.lat_ballots.specs.Deck.{mark_at}
-use Rattle.deck_builder.specs.Pattern.{Pattern, mark_total, place, is_laid, has_mark, working_ballot, pattern_ballots, pattern_deck}
+use Rattle.deck_builder.specs.Pattern.{Pattern, has_mark, working_ballot, pattern_ballots, pattern_deck}
 
 -- the three kinds of ballots
 abbrev pub full : Pattern → List Bool

@@ -1,11 +1,10 @@
 -- The runs of marks, target by target.
-use Rattle.std.proofs.Common.{◌≡◌, ◌+◌, ◌-◌, ◌<◌, ◌≤◌, ◌++◌, ℕ, List, [], ◌∷◌, length, map, get_or, ap, sym, subst, ◌∙◌, arith}
-use Rattle.std.specs.List.{range_with_len, sum_by}
-use Rattle.lat_base.specs.Shape.{target_count, first_target, contest_at, contest_of}
-use Rattle.readings.proofs.Places.{IsOf, is_of, nth_is_of, contest_is, first_next}
+use Rattle.std.proofs.Common.{◌≡◌, ◌+◌, ◌-◌, ◌<◌, ◌≤◌, ◌++◌, ℕ, List, [], ◌∷◌, length, ap, sym, ◌∙◌, arith}
+use Rattle.lat_base.specs.Shape.{target_count, first_target, contest_of}
+use Rattle.readings.proofs.Places.{is_of, nth_is_of, contest_is, first_next}
 use Rattle.lemmas.proofs.Ranges.{made_more, sum_more}
 use Rattle.deck_builder.specs.declared.runs.Run.{Run}
-use Rattle.deck_builder.specs.Pattern.{Pattern, FitsContest, Fits, size, mark_total, place}
+use Rattle.deck_builder.specs.Pattern.{Pattern, Fits, size, mark_total, place}
 use Rattle.deck_builder.specs.Runs.{run_of, runs_of}
 use Rattle.deck_builder.proofs.Raised.{few_marks}
 

@@ -1,7 +1,7 @@
 -- The counts of a contest, and the marks of each target as a run of places.
 use Rattle.std.specs.Prelude.{◌+◌, ◌-◌, ◌*◌, ℕ, Bool, if◌then◌else◌, min, List, map, slice_set}
 use Rattle.std.specs.List.{range_with_len}
-use Rattle.lat_base.specs.Shape.{target_count, first_target, contest_of}
+use Rattle.lat_base.specs.Shape.{first_target, contest_of}
 use Rattle.lat_ballots.specs.Deck.{Ballots}
 use Rattle.deck_builder.specs.declared.counts.Marking.{Marking}
 use Rattle.deck_builder.specs.declared.runs.Run.{Run}

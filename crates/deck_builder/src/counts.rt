@@ -63,8 +63,7 @@ pub fn working_ballots(rules: &Rules, k: u16) -> u16
     ensures value { result ≡ k - rules.now.over - rules.now.blank }
     ensures few { result ≤ 1024 }
 {
-    k.saturating_sub(rules.over())
-        .saturating_sub(rules.blank())
+    k.saturating_sub(rules.over()).saturating_sub(rules.blank())
 }
 
 // How many votes are left in contest c.

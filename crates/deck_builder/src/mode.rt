@@ -16,6 +16,7 @@ pub enum Mode {
 
 /// How many patterns there are, and how many of them one after the other have the same mode.
 pub const PATTERNS: u32 = 32;
+
 pub const STEPS: u32 = 8;
 
 /// The mode of pattern number `turn`.

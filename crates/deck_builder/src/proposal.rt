@@ -16,7 +16,8 @@ use std::alloc::{AllocError, Global};
 // Whether ballot j of the pattern marks target t.
 fn has_mark(runs: &[Run], rules: &Rules, shape: &Shape, k: u16, turn: u32, j: u16, t: u16) -> bool
     requires fits { CanPropose shape.now rules.now k turn }
-    requires runs { runs.now ≡ runs_of (pattern shape.now rules.now k turn) (target_count shape.now) }
+    requires runs { let p = pattern shape.now rules.now k turn in
+        runs.now ≡ runs_of p (target_count shape.now) }
     requires few { k ≤ 1024 }
     requires ballot { j < k }
     requires target { t < target_count shape.now }
@@ -35,14 +36,24 @@ fn has_mark(runs: &[Run], rules: &Rules, shape: &Shape, k: u16, turn: u32, j: u1
 }
 
 // Sets the marks of ballot j to those of the pattern.
-fn set_ballot(deck: &mut Deck, runs: &[Run], rules: &Rules, shape: &Shape, k: u16, turn: u32, j: u16)
+fn set_ballot(
+    deck: &mut Deck,
+    runs: &[Run],
+    rules: &Rules,
+    shape: &Shape,
+    k: u16,
+    turn: u32,
+    j: u16,
+)
     requires fits { CanPropose shape.now rules.now k turn }
-    requires runs { runs.now ≡ runs_of (pattern shape.now rules.now k turn) (target_count shape.now) }
+    requires runs { let p = pattern shape.now rules.now k turn in
+        runs.now ≡ runs_of p (target_count shape.now) }
     requires few { k ≤ 1024 }
     requires ballot { j < k }
     requires ballots { length deck.old.ballots ≡ k }
     requires targets { deck.old.targets ≡ target_count shape.now }
-    ensures { deck.new ≡ with_ballot deck.old j (ballot_at (pattern_deck (pattern shape.now rules.now k turn)) j) }
+    ensures { let whole = pattern_deck (pattern shape.now rules.now k turn) in
+        deck.new ≡ with_ballot deck.old j (ballot_at whole j) }
 {
     let _targets = deck.targets();
     for t in 0..shape.targets() {
@@ -81,10 +92,13 @@ pub fn propose(
     turn: u32,
 ) -> Result<Option<Deck>, AllocError>
     requires { k ≤ 1024 }
-    ensures none { IfOk result (λ proposed. (proposed ≡ None) ↔ ¬ CanPropose shape.now rules.now k turn) }
-    ensures deck { IfOk result (λ proposed. IfSome proposed (λ deck. deck ≡ pattern_deck (pattern shape.now rules.now k turn))) }
+    ensures none { IfOk result (λ proposed.
+        (proposed ≡ None) ↔ ¬ CanPropose shape.now rules.now k turn) }
+    ensures deck { let whole = pattern_deck (pattern shape.now rules.now k turn) in
+        IfOk result (λ proposed. IfSome proposed (λ deck. deck ≡ whole)) }
     ensures size { IfOk result (λ proposed. IfSome proposed (λ deck. length deck.ballots ≡ k)) }
-    ensures obeys { IfOk result (λ proposed. IfSome proposed (λ deck. Obeys shape.now rules.now deck.ballots)) }
+    ensures obeys { IfOk result (λ proposed.
+        IfSome proposed (λ deck. Obeys shape.now rules.now deck.ballots)) }
 {
     if !can_propose(shape, rules, k, turn) {
         return Ok(None);

@@ -26,8 +26,10 @@ fn push_runs(
 ) -> Result<(), AllocError>
     requires contest { c < length shape.now }
     requires few { k ≤ 1024 }
-    requires before { runs.old.items ≡ runs_of (pattern shape.now rules.now k turn) (first_target shape.now c) }
-    ensures { OnOk result (runs.new.items ≡ runs_of (pattern shape.now rules.now k turn) (first_target shape.now (c + 1))) }
+    requires before { let p = pattern shape.now rules.now k turn in
+        runs.old.items ≡ runs_of p (first_target shape.now c) }
+    ensures { let p = pattern shape.now rules.now k turn in
+        OnOk result (runs.new.items ≡ runs_of p (first_target shape.now (c + 1))) }
 {
     let _contests = shape.contests();
     let marking = marking_in(shape, rules, k, turn, c);
@@ -49,7 +51,8 @@ pub fn runs(
     turn: u32,
 ) -> Result<Vec<Run>, AllocError>
     requires { k ≤ 1024 }
-    ensures { IfOk result (λ runs. runs.items ≡ runs_of (pattern shape.now rules.now k turn) (target_count shape.now)) }
+    ensures { let p = pattern shape.now rules.now k turn in
+        IfOk result (λ runs. runs.items ≡ runs_of p (target_count shape.now)) }
 {
     let mut runs = Vec::with_capacity(alloc, usize::from(shape.targets()))?;
     for c in 0..shape.contests() {

@@ -32,5 +32,6 @@ pub fn shown_solution_is_value()
 /// A law: a good deck with a blank ballot added is good. The call does nothing.
 pub fn padding_keeps_good()
     ensures { (contests : List Contest) (rules : RuleSet) (deck : List (List Bool)) →
-        IsGood contests rules deck → IsGood contests rules (replicate (target_count contests) false ∷ deck) }
+        IsGood contests rules deck →
+        IsGood contests rules (replicate (target_count contests) false ∷ deck) }
 {}

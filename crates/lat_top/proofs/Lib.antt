@@ -1,9 +1,6 @@
 pub mod NumberFacts
-pub mod Fronts
-pub mod Tried
-pub mod Decks
 pub mod Files
-pub mod Since
 pub mod PlanFacts
-pub mod VerifyFacts
-pub mod Completeness
+pub mod Scripts
+pub mod Since
+pub mod Calls

@@ -2,23 +2,21 @@ ghost use Rattle.std.specs.Prelude.{◌≡◌, ◌+◌, ◌∷◌, [], ℕ, List
 ghost use Rattle.lat_base.specs.Shape.{target_count};
 ghost use Rattle.lat_base.specs.Names.{NamesFit};
 ghost use Rattle.lat_top.specs.Asked.{kept};
-ghost use Rattle.lat_top.specs.AskedStyle.{planned_style, Finds};
 ghost use Rattle.lat_top.specs.Summary.{least_summary, none_summary};
-ghost use Rattle.lat_top.specs.PlanAnswer.{IsAnswer, deck_name, totals_name, deck_files};
+ghost use Rattle.lat_top.specs.PlanFiles.{deck_name, totals_name, deck_files};
+ghost use Rattle.lat_top.specs.PlanJob.{IsPlan};
 ghost use Rattle.lat_top.specs.Writing.{entry, entries};
 ghost use Rattle.lat_top.specs.Written.{texts_of};
 
 use crate::Status;
 use crate::asked_style::AskedStyle;
-use crate::finding::find_planned;
 use crate::output::Output;
-use crate::plain_search::least_deck;
 use crate::plan_words::PlanWords;
 use crate::put::Put;
-use crate::refusal::Refusal;
 use crate::summary::{least_summary, none_summary};
 use deck_text::{deck_csv, totals_csv};
 use lat_ballots::Deck;
+use plain_search::least_deck;
 use std::alloc::{AllocError, Global};
 
 // The file of a deck.
@@ -46,7 +44,8 @@ fn deck_files(
 ) -> Result<Vec<Put>, AllocError>
     requires targets { deck.now.targets ≡ target_count style.now.shape }
     requires fits { NamesFit style.now.names.contests style.now.shape }
-    ensures { IfOk result (λ puts. entries puts.items ≡ deck_files prefix.now style.now deck.now.ballots) }
+    ensures { IfOk result (λ puts.
+        entries puts.items ≡ deck_files prefix.now style.now deck.now.ballots) }
 {
     let ballots = deck_csv(alloc, &style.names, deck)?;
     let totals = totals_csv(alloc, &style.shape, &style.names, deck)?;
@@ -66,8 +65,11 @@ fn found(
     requires targets { deck.now.targets ≡ target_count style.now.shape }
     requires fits { NamesFit style.now.names.contests style.now.shape }
     ensures status { IfOk result (λ output. output.status ≡ Status.Done) }
-    ensures puts { IfOk result (λ output. (texts_of output).puts ≡ deck_files (kept asked.now).prefix style.now deck.now.ballots) }
-    ensures summary { IfOk result (λ output. (texts_of output).summary ≡ least_summary (kept asked.now).style (target_count style.now.shape) (length deck.now.ballots)) }
+    ensures puts { IfOk result (λ output. (texts_of output).puts ≡
+        deck_files (kept asked.now).prefix style.now deck.now.ballots) }
+    ensures summary { IfOk result (λ output. (texts_of output).summary ≡
+        least_summary (kept asked.now).style (target_count style.now.shape)
+        (length deck.now.ballots)) }
 {
     Ok(Output {
         status: Status::Done,
@@ -89,7 +91,8 @@ fn none_found(
 ) -> Result<Output, AllocError>
     ensures status { IfOk result (λ output. output.status ≡ Status.NoDeck) }
     ensures puts { IfOk result (λ output. (texts_of output).puts ≡ []) }
-    ensures summary { IfOk result (λ output. (texts_of output).summary ≡ none_summary (kept asked.now).style (target_count style.now.shape) (kept asked.now).max) }
+    ensures summary { IfOk result (λ output. (texts_of output).summary ≡
+        none_summary (kept asked.now).style (target_count style.now.shape) (kept asked.now).max) }
 {
     Ok(Output {
         status: Status::NoDeck,
@@ -98,14 +101,18 @@ fn none_found(
     })
 }
 
-/// What `plan` writes, from the bytes of the definition, or the first refusal.
-pub fn plan(alloc: Global, definition: &[u8], asked: &PlanWords<'_>) -> Result<Output, Refusal>
-    ensures answer { IfOk result (λ output. IsAnswer (kept asked.now) definition.now output.status (texts_of output)) }
-    ensures refused { IfErr result (λ refusal. Finds (Err refusal) (planned_style (kept asked.now) definition.now)) }
+/// What `plan` writes for a style.
+pub fn planned(
+    alloc: Global,
+    asked: &PlanWords<'_>,
+    style: &AskedStyle,
+) -> Result<Output, AllocError>
+    requires { NamesFit style.now.names.contests style.now.shape }
+    ensures { IfOk result (λ output.
+        IsPlan (kept asked.now) style.now output.status (texts_of output)) }
 {
-    let style = find_planned(alloc, definition, asked)?;
     match least_deck(alloc, &style.shape, &style.rules, asked.max)? {
-        Some(deck) => Ok(found(alloc, asked, &style, &deck)?),
-        None => Ok(none_found(alloc, asked, &style)?),
+        Some(deck) => found(alloc, asked, style, &deck),
+        None => none_found(alloc, asked, style),
     }
 }

@@ -1,13 +1,15 @@
 ghost use Rattle.std.specs.Prelude.{◌≡◌, ◌<◌, ◌≤◌, ℕ, length, IfOk};
 ghost use Rattle.lat_base.specs.Names.{NamesFit};
 ghost use Rattle.election_json.specs.Definition.{DefinitionValue};
-ghost use Rattle.lat_top.specs.Asked.{kept};
-ghost use Rattle.lat_top.specs.AskedStyle.{asked_style, planned_style, ruled_style, narrow_style, Finds};
+ghost use Rattle.lat_top.specs.Script.{Reads, moment};
+ghost use Rattle.lat_top.specs.Judged.{Judged};
+ghost use Rattle.lat_top.specs.AskedStyle.{asked_style, ruled_style, narrow_style, style_in_file};
 
 use crate::asked_style::AskedStyle;
-use crate::plan_words::PlanWords;
+use crate::reading::{FILE_LIMIT, read_file};
 use crate::refusal::Refusal;
 use election_json::{DefFail, Definition, read_definition};
+use lat_shelf::Shelf;
 use std::alloc::{AllocError, Global};
 
 // Style number i, under the definition's rules.
@@ -25,10 +27,10 @@ fn ruled_style(alloc: Global, definition: &Definition, i: u32) -> Result<AskedSt
     })
 }
 
-/// The style of that id, from the bytes of a definition, or the first refusal: the definition's first
-/// fault, then that no style has the id.
-pub fn find_style(alloc: Global, bytes: &[u8], id: &str) -> Result<AskedStyle, Refusal>
-    ensures style { Finds result (asked_style id.now bytes.now) }
+// The style of that id, from the bytes of a definition, or the first refusal: the definition's first
+// fault, then that no style has the id.
+fn find_style(alloc: Global, bytes: &[u8], id: &str) -> Result<AskedStyle, Refusal>
+    ensures style { Judged result (asked_style id.now bytes.now) }
     ensures fits { IfOk result (λ style. NamesFit style.names.contests style.shape) }
 {
     let definition = match read_definition(alloc, bytes) {
@@ -45,10 +47,25 @@ pub fn find_style(alloc: Global, bytes: &[u8], id: &str) -> Result<AskedStyle, R
     }
 }
 
-// The style, where it is small enough to try every deck up to the size cap.
-fn narrow_style(style: AskedStyle, max: u16) -> Result<AskedStyle, Refusal>
+/// The style of that id in a definition's file.
+pub fn read_style<H: Shelf>(
+    alloc: Global,
+    shelf: &mut H,
+    name: &str,
+    id: &str,
+) -> Result<AskedStyle, Refusal>
+    ensures reads { let seen = moment H.files H.faults in
+        Reads (style_in_file name.now id.now) (seen shelf.old) (seen shelf.new) result }
+    ensures fits { IfOk result (λ style. NamesFit style.names.contests style.shape) }
+{
+    let definition = read_file(alloc, shelf, name, FILE_LIMIT)?;
+    find_style(alloc, &definition, id)
+}
+
+/// The style, where it is small enough to try every deck up to the size cap.
+pub fn narrow_style(style: AskedStyle, max: u16) -> Result<AskedStyle, Refusal>
     requires { max ≤ 1024 }
-    ensures style { Finds result (narrow_style max style) }
+    ensures style { Judged result (narrow_style max style) }
     ensures same { IfOk result (λ found. found ≡ style) }
 {
     let targets = u32::from(style.shape.targets());
@@ -57,19 +74,4 @@ fn narrow_style(style: AskedStyle, max: u16) -> Result<AskedStyle, Refusal>
         return Err(Refusal::TooWide(width));
     }
     Ok(style)
-}
-
-/// The style that the words of a plan ask for, or the first refusal; that it is too wide comes last.
-pub fn find_planned(
-    alloc: Global,
-    bytes: &[u8],
-    asked: &PlanWords<'_>,
-) -> Result<AskedStyle, Refusal>
-    ensures style { Finds result (planned_style (kept asked.now) bytes.now) }
-    ensures fits { IfOk result (λ style. NamesFit style.names.contests style.shape) }
-{
-    match find_style(alloc, bytes, asked.style) {
-        Ok(style) => narrow_style(style, asked.max),
-        Err(refusal) => Err(refusal),
-    }
 }

@@ -3,11 +3,11 @@
 
 mod answer;
 mod asked_style;
+mod attackable;
 mod command;
 mod finding;
 mod output;
-mod plain_robust;
-mod plain_search;
+mod plan;
 mod plan_words;
 mod put;
 mod reading;
@@ -16,9 +16,8 @@ mod status;
 mod status_text;
 mod summary;
 mod top;
-mod verify_run;
+mod verify;
 mod verify_words;
-mod verifying;
 mod word_fault;
 mod words;
 mod write;
@@ -26,6 +25,3 @@ mod write;
 pub use status::Status;
 pub use top::run;
 pub use word_fault::WordFault;
-
-#[cfg(test)]
-mod tests;

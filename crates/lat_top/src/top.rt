@@ -1,41 +1,45 @@
 ghost use Rattle.std.specs.Prelude.{◌≡◌, ◌≤◌, ◌↔◌, Ok, Err};
 ghost use Rattle.lat_top.specs.declared.word_fault.WordFault.{WordFault};
-ghost use Rattle.lat_top.specs.Words.{Plan, Plans, Verify, Verifies, texts, asked_of};
-ghost use Rattle.lat_top.specs.Asked.{kept};
-ghost use Rattle.lat_top.specs.Outside.{Outside, Untouched};
-ghost use Rattle.lat_top.specs.PlanEnds.{PlanEnds};
-ghost use Rattle.lat_top.specs.VerifyEnds.{VerifyEnds};
-ghost use Rattle.lat_top.specs.Complete.{CanPlan, IsPlanned, CanVerify, IsAttacked};
+ghost use Rattle.lat_top.specs.Words.{Asked, texts, asked_of};
+ghost use Rattle.lat_top.specs.Asked.{asked_by};
+ghost use Rattle.lat_top.specs.Outside.{Untouched, outside};
+ghost use Rattle.lat_top.specs.Job.{Answers, Ends, Completes};
+ghost use Rattle.lat_top.specs.Jobs.{job_of};
+ghost use Rattle.lat_top.specs.Script.{moment};
 
 use crate::Status;
-use crate::answer::plan;
 use crate::command::Command;
-use crate::plan_words::PlanWords;
-use crate::reading::read_file;
-use crate::refusal::status_of;
-use crate::verify_run::run_verify;
+use crate::output::Output;
+use crate::plan::plan;
+use crate::refusal::{Refusal, status_of};
+use crate::verify::verify;
 use crate::words::read_words;
 use crate::write::write_output;
 use lat_shelf::{Shelf, Sink};
 use std::alloc::Global;
 
-// Plans the style of the definition that the words name, and writes the plan.
-#[tactic(auto, using(crate::proofs::PlanFacts::ends_unread))]
-fn run_plan<H: Shelf, K: Sink>(
+// What a command answers.
+fn answer<H: Shelf>(alloc: Global, command: &Command<'_>, shelf: &mut H) -> Result<Output, Refusal>
+    ensures { let seen = moment H.files H.faults in
+        Answers (job_of (asked_by command.now)) (seen shelf.old) (seen shelf.new) result }
+{
+    match command {
+        Command::Plan(asked) => plan(alloc, asked, shelf),
+        Command::Verify(asked) => verify(alloc, asked, shelf),
+    }
+}
+
+// Does what a command asks for.
+fn run_command<H: Shelf, K: Sink>(
     alloc: Global,
-    asked: &PlanWords<'_>,
+    command: &Command<'_>,
     shelf: &mut H,
     out: &mut K,
 ) -> Status
-    ensures { PlanEnds (kept asked.now) result
-        (record { files = H.files shelf.old; given = K.given out.old; shelf_faults = H.faults shelf.old; sink_faults = K.faults out.old })
-        (record { files = H.files shelf.new; given = K.given out.new; shelf_faults = H.faults shelf.new; sink_faults = K.faults out.new }) }
+    ensures { let seen = outside H.files H.faults K.given K.faults in
+        Ends (job_of (asked_by command.now)) result (seen shelf.old out.old) (seen shelf.new out.new) }
 {
-    let definition = match read_file(alloc, shelf, asked.definition) {
-        Ok(definition) => definition,
-        Err(status) => return status,
-    };
-    match plan(alloc, definition.as_slice(), asked) {
+    match answer(alloc, command, shelf) {
         Ok(output) => write_output(shelf, out, &output),
         Err(refusal) => status_of(refusal),
     }
@@ -43,39 +47,31 @@ fn run_plan<H: Shelf, K: Sink>(
 
 /// Does what the words after the program's name ask for: reads from the shelf, puts files there,
 /// and gives the summary to `out`.
-#[tactic(auto, using(crate::proofs::Completeness::planned, crate::proofs::Completeness::attacked))]
+///
+/// What a command may read, be refused for, answer and write is its job, in `specs/Jobs.antt`. The
+/// status is `Words` exactly where the words are no command in form; then, as after every other
+/// refusal, no file changes and nothing is given. Where files are told and no call fails, the files
+/// decide the status and all that is written, unless memory was wanting.
 pub fn run<H: Shelf, K: Sink>(alloc: Global, words: &[String], shelf: &mut H, out: &mut K) -> Status
     // The first fault in the words, exactly where they have one; then nothing is written.
-    ensures words { (fault : WordFault) → (result ≡ Status.Words fault) ↔ (asked_of (texts words.now) ≡ Err fault) }
-    ensures refused { (fault : WordFault) → asked_of (texts words.now) ≡ Err fault → Untouched
-        (record { files = H.files shelf.old; given = K.given out.old; shelf_faults = H.faults shelf.old; sink_faults = K.faults out.old })
-        (record { files = H.files shelf.new; given = K.given out.new; shelf_faults = H.faults shelf.new; sink_faults = K.faults out.new }) }
+    ensures words { let asked = asked_of (texts words.now) in
+        (fault : WordFault) → (result ≡ Status.Words fault) ↔ (asked ≡ Err fault) }
+    ensures refused { let seen = outside H.files H.faults K.given K.faults in
+        (fault : WordFault) → asked_of (texts words.now) ≡ Err fault →
+        Untouched (seen shelf.old out.old) (seen shelf.new out.new) }
 
-    // What a plan leaves, by the status.
-    ensures plan { (plan : Plan) → asked_of (texts words.now) ≡ Ok (Plans plan) → PlanEnds plan result
-        (record { files = H.files shelf.old; given = K.given out.old; shelf_faults = H.faults shelf.old; sink_faults = K.faults out.old })
-        (record { files = H.files shelf.new; given = K.given out.new; shelf_faults = H.faults shelf.new; sink_faults = K.faults out.new }) }
+    // What the call leaves.
+    ensures ends { let seen = outside H.files H.faults K.given K.faults in
+        (asked : Asked) → asked_of (texts words.now) ≡ Ok asked →
+        Ends (job_of asked) result (seen shelf.old out.old) (seen shelf.new out.new) }
 
-    // What an attack on a deck leaves, by the status.
-    ensures verify { (verify : Verify) → asked_of (texts words.now) ≡ Ok (Verifies verify) → VerifyEnds verify result
-        (record { files = H.files shelf.old; given = K.given out.old; shelf_faults = H.faults shelf.old; sink_faults = K.faults out.old })
-        (record { files = H.files shelf.new; given = K.given out.new; shelf_faults = H.faults shelf.new; sink_faults = K.faults out.new }) }
-
-    // A plan that can be made is made.
-    ensures complete { (plan : Plan) → asked_of (texts words.now) ≡ Ok (Plans plan) → CanPlan plan
-        (record { files = H.files shelf.old; given = K.given out.old; shelf_faults = H.faults shelf.old; sink_faults = K.faults out.old })
-        (record { files = H.files shelf.new; given = K.given out.new; shelf_faults = H.faults shelf.new; sink_faults = K.faults out.new })
-        → IsPlanned result }
-
-    // A deck that can be attacked is attacked.
-    ensures complete_verify { (verify : Verify) → asked_of (texts words.now) ≡ Ok (Verifies verify) → CanVerify verify
-        (record { files = H.files shelf.old; given = K.given out.old; shelf_faults = H.faults shelf.old; sink_faults = K.faults out.old })
-        (record { files = H.files shelf.new; given = K.given out.new; shelf_faults = H.faults shelf.new; sink_faults = K.faults out.new })
-        → IsAttacked result }
+    // Where files are told and nothing fails, the files say how the call ends.
+    ensures complete { let seen = outside H.files H.faults K.given K.faults in
+        (asked : Asked) → asked_of (texts words.now) ≡ Ok asked →
+        Completes (job_of asked) result (seen shelf.old out.old) (seen shelf.new out.new) }
 {
     match read_words(words) {
-        Ok(Command::Plan(asked)) => run_plan(alloc, &asked, shelf, out),
-        Ok(Command::Verify(asked)) => run_verify(alloc, &asked, shelf, out),
+        Ok(command) => run_command(alloc, &command, shelf, out),
         Err(fault) => Status::Words(fault),
     }
 }

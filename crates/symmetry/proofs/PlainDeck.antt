@@ -1,5 +1,5 @@
 -- The plain deck obeys the rules and is canonical.
-use Rattle.std.proofs.Common.{◌≡◌, ◌≢◌, ◌+◌, ◌-◌, ◌*◌, ◌<◌, ◌≤◌, ◌++◌, ℕ, zero, suc, Bool, true, false, not, List, [], ◌∷◌, length, get_or, map, replicate, cond, count_by, refl, ap, sym, subst, ◌∙◌, arith, All, nat_lt, inl, inr}
+use Rattle.std.proofs.Common.{◌≡◌, ◌≢◌, ◌+◌, ◌-◌, ◌*◌, ◌<◌, ◌≤◌, ◌++◌, ℕ, zero, suc, Bool, true, false, not, List, [], ◌∷◌, length, get_or, map, replicate, cond, ap, sym, ◌∙◌, arith, All, nat_lt, inl, inr}
 use Rattle.std.specs.List.{range_with_len, flat_map}
 use Rattle.std.specs.Ordering.{nat_cmp, bool_cmp, ordering_then}
 use Rattle.std.specs.Cmp.Lexicographic.{slice_cmp}
@@ -14,13 +14,12 @@ use Rattle.lat_base.specs.Rules.{RuleSet, Obeys, is_blank}
 use Rattle.lat_base.specs.Shape.{target_count, first_target, contest_at, contest_of, IsShape}
 use Rattle.lat_base.specs.Tally.{is_overvoted, own_total}
 use Rattle.lat_ballots.specs.Plain.{only, only_ballots}
-use Rattle.readings.specs.Structural.{targets_of}
-use Rattle.readings.proofs.Places.{nth_is_of, nth_within, contest_is, first_mono, first_next}
+use Rattle.readings.proofs.Places.{nth_is_of, nth_within, contest_is, first_mono}
 use Rattle.symmetry.specs.Order.{totals_of, RiseWithin, AreEarlier}
 use Rattle.symmetry.proofs.CanonicalDecks.{canonical_of}
 use Rattle.symmetry.proofs.Copies.{full, unmarked, full_marks, all_copies, full_overvoted, unmarked_blank}
 use Rattle.symmetry.proofs.Falls.{IsNotSmaller, Falls, are_falling, falls_both, copies_fall, has_more, earlier_mark}
-use Rattle.symmetry.proofs.PlainBallots.{IsSingle, singles, plain, are_single, only_long, of_full, in_three, plain_total}
+use Rattle.symmetry.proofs.PlainBallots.{singles, plain, are_single, only_long, of_full, in_three, plain_total}
 
 pub plain_obeys : (contests : List Contest) (rules : RuleSet) → IsShape contests → Obeys contests rules (plain contests rules)
 plain_obeys contests rules shape = record {

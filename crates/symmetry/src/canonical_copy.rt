@@ -47,7 +47,8 @@ pub fn canonical(alloc: Global, shape: &Shape, deck: Deck) -> Result<Deck, Alloc
     ensures canonical { IfOk result (λ copy. IsCanonical shape.now copy.ballots) }
     ensures reordered { IfOk result (λ copy. IsReordered shape.now deck.ballots copy.ballots) }
     ensures good { IfOk result (λ copy. (rules : RuleSet) → IsGood shape.now rules copy.ballots ↔ IsGood shape.now rules deck.ballots) }
-    ensures obeys { IfOk result (λ copy. (rules : RuleSet) → Obeys shape.now rules deck.ballots → Obeys shape.now rules copy.ballots) }
+    ensures obeys { IfOk result (λ copy. (rules : RuleSet) →
+        Obeys shape.now rules deck.ballots → Obeys shape.now rules copy.ballots) }
     ensures size { IfOk result (λ copy. length copy.ballots ≡ length deck.ballots) }
     ensures targets { IfOk result (λ copy. copy.targets ≡ deck.targets) }
 {

@@ -18,11 +18,14 @@ pub fn good_has_canonical()
 /// targets are reordered is good exactly where it was before, obeys the rules where it did, and has as
 /// many ballots. The call does nothing.
 pub fn reordering_keeps_good()
-    ensures good { (contests : List Contest) (rules : RuleSet) (deck result : List (List Bool)) → Fits (target_count contests) deck →
+    ensures good { (contests : List Contest) (rules : RuleSet) (deck result : List (List Bool)) →
+        Fits (target_count contests) deck →
         IsReordered contests deck result → (IsGood contests rules result ↔ IsGood contests rules deck) }
-    ensures obeys { (contests : List Contest) (rules : RuleSet) (deck result : List (List Bool)) → Fits (target_count contests) deck →
+    ensures obeys { (contests : List Contest) (rules : RuleSet) (deck result : List (List Bool)) →
+        Fits (target_count contests) deck →
         IsReordered contests deck result → Obeys contests rules deck → Obeys contests rules result }
-    ensures size { (contests : List Contest) (deck result : List (List Bool)) → IsReordered contests deck result → length result ≡ length deck }
+    ensures size { (contests : List Contest) (deck result : List (List Bool)) →
+        IsReordered contests deck result → length result ≡ length deck }
 {}
 
 /// A law: the plain deck of every style obeys the rules, under any rules, and is canonical. The call does

@@ -1,4 +1,4 @@
-use Rattle.std.proofs.Common.{◌≡◌, ◌<◌, ◌∙◌, ℕ, Bool, List, false, replicate, length, ap, sym, subst, arith}
+use Rattle.std.proofs.Common.{◌≡◌, ◌∙◌, Bool, List, false, replicate, length, ap, sym, subst, arith}
 use Rattle.lat_base.specs.Rules.{Obeys}
 use Rattle.lat_base.specs.Shape.{target_count}
 use Rattle.lat_ballots.specs.Deck.{Ballots}

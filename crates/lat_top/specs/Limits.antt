@@ -1,0 +1,21 @@
+-- The limits on words and files.
+use Rattle.std.specs.Prelude.{ℕ}
+
+-- how many bytes a definition or a table may have
+abbrev pub file_limit : ℕ
+file_limit = 8388608
+
+-- how many bytes a file name may have
+abbrev pub most_name_bytes : ℕ
+most_name_bytes = 1024
+
+-- how many ballots a size cap may allow
+abbrev pub most_ballots : ℕ
+most_ballots = 1024
+
+-- the least and the greatest budget, in nodes of a search tree
+abbrev pub least_budget : ℕ
+least_budget = 1000
+
+abbrev pub most_budget : ℕ
+most_budget = 1000000000000

@@ -1,0 +1,139 @@
+use crate::printing::{print_bytes, push_hex};
+use anyhow::{Error, Result};
+use lat_shelf::{FileShelf, Kind, MemoryShelf, MemorySink, read_whole};
+use lat_top::run;
+use std::alloc::{AllocError, Global};
+
+// How many bytes a file may have that lies beside the program.
+const DATA_LIMIT: u32 = 67_108_864;
+
+/// Files in memory, the output of the call at hand, and the file that is being written.
+#[derive(Drop)]
+pub struct Bench {
+    alloc: Global,
+    shelf: MemoryShelf,
+    out: MemorySink,
+    file: Vec<u8>,
+}
+
+// The words of a line, where '' stands for one without a byte.
+fn words_of(alloc: Global, line: &str) -> Result<Vec<String>, AllocError> {
+    let mut words = Vec::new(alloc);
+    for word in line.split_whitespace() {
+        words.push(String::from_str(alloc, if word == "''" { "" } else { word })?)?;
+    }
+    Ok(words)
+}
+
+impl Bench {
+    /// No files, and no call that fails.
+    pub fn new(alloc: Global) -> Bench {
+        Bench {
+            alloc,
+            shelf: MemoryShelf::new(alloc),
+            out: MemorySink::new(alloc),
+            file: Vec::new(alloc),
+        }
+    }
+
+    // Runs a command; prints its words, the number and the line of its status, and what it gave.
+    fn run<R: Print>(&mut self, rt: &R, line: &str) -> Result<()> {
+        let words = words_of(self.alloc, line)?;
+        let status = run(self.alloc, &words, &mut self.shelf, &mut self.out);
+        let text = status.line(self.alloc)?;
+        println!(rt; "$ {line}")?;
+        print!(rt; "{}", status.code())?;
+        print_bytes(rt, "", &text)?;
+        print_bytes(rt, ">", self.out.bytes())?;
+        self.out = MemorySink::new(self.alloc);
+        Ok(())
+    }
+
+    // Prints a file.
+    fn show<R: Print>(&self, rt: &R, name: &str) -> Result<()> {
+        match self.shelf.file(name) {
+            None => println!(rt; "{name}: none")?,
+            Some(bytes) => {
+                println!(rt; "{name}: {} bytes", bytes.len())?;
+                print_bytes(rt, "|", bytes)?;
+            }
+        }
+        Ok(())
+    }
+
+    // Prints how many bytes a file has.
+    fn size<R: Print>(&self, rt: &R, name: &str) -> Result<()> {
+        match self.shelf.file(name) {
+            None => println!(rt; "{name}: none")?,
+            Some(bytes) => println!(rt; "{name}: {} bytes", bytes.len())?,
+        }
+        Ok(())
+    }
+
+    // Adds the bytes of a file that lies beside the program.
+    fn load<R: Files>(&mut self, rt: &R, name: &str) -> Result<()> {
+        let mut files = FileShelf::new(rt);
+        match read_whole(self.alloc, &mut files, name, DATA_LIMIT) {
+            Ok(bytes) => {
+                self.file.extend_from_slice(&bytes)?;
+                Ok(())
+            }
+            Err(_) => Err(Error::msg(self.alloc, "no such file beside the program")?),
+        }
+    }
+
+    // Lets call number n of a kind fail.
+    fn fail(&mut self, kind: &str, number: &str) -> Result<()> {
+        let n = number.parse::<u64>().unwrap_or(0);
+        match kind {
+            "open" => self.shelf.fail(Kind::Open, n)?,
+            "take" => self.shelf.fail(Kind::Take, n)?,
+            "put" => self.shelf.fail(Kind::Put, n)?,
+            _ => self.out.fail(n)?,
+        }
+        Ok(())
+    }
+
+    // Adds bytes to the file that is being written.
+    fn write<R: Files>(&mut self, rt: &R, head: &str, rest: &str) -> Result<()> {
+        match head {
+            "|" => {
+                self.file.extend_from_slice(rest.as_bytes())?;
+                self.file.push(b'\n')?;
+            }
+            "hex" => push_hex(&mut self.file, rest)?,
+            "load" => self.load(rt, rest)?,
+            _ => {
+                for _ in 0..rest.parse::<u32>().unwrap_or(0) {
+                    self.file.push(b' ')?;
+                }
+            }
+        }
+        Ok(())
+    }
+
+    /// Does what a line says (docs/ADDING.md tells the lines). A line of another kind is printed.
+    pub fn step<R: Print + Files>(&mut self, rt: &R, line: &str) -> Result<()> {
+        let (head, rest) = line.split_once(' ').unwrap_or((line, ""));
+        match head {
+            "new" => {
+                self.shelf = MemoryShelf::new(self.alloc);
+                self.out = MemorySink::new(self.alloc);
+            }
+            "|" | "hex" | "fill" | "load" => self.write(rt, head, rest)?,
+            "file" => {
+                self.shelf.add(rest, &self.file)?;
+                self.file.clear();
+            }
+            "fail" => {
+                let (kind, number) = rest.split_once(' ').unwrap_or((rest, "0"));
+                self.fail(kind, number)?;
+            }
+            "run" => self.run(rt, rest)?,
+            "show" => self.show(rt, rest)?,
+            "size" => self.size(rt, rest)?,
+            _ => println!(rt; "{line}")?,
+        }
+        Ok(())
+    }
+}
