@@ -1,9 +1,13 @@
 -- Kept counts of marks, ballot by ballot.
-use Rattle.std.proofs.Common.{◌≡◌, ◌<◌, ◌≤◌, ◌+◌, ◌&&◌, ℕ, Bool, false, not, Option, None, is_some, List, [], length, map, get_or, count_by, refl, ap, ◌∙◌, arith}
+use Rattle.std.proofs.Common.{◌≡◌, ◌<◌, ◌≤◌, ◌+◌, ◌&&◌, ℕ, Bool, false, not, Option, None, is_some, List, [], ◌∷◌, length, map, get_or, count_by, refl, ap, sym, ◌∙◌, arith, All}
 use Rattle.std.proofs.lemmas.List.{length-map, get_or-map}
 use Rattle.std.proofs.lemmas.List.Sums.{count_by-le-length}
 use Rattle.lat_base.specs.declared.contest.Contest.{Contest}
-use Rattle.lat_base.specs.Shape.{first_target, contest_of}
+use Rattle.std.proofs.lemmas.List.Elements.{All-head, All-tail}
+use Rattle.lat_ballots.specs.Row.{common_count}
+use Rattle.lat_base.specs.Deck.{Fits}
+use Rattle.lat_base.specs.Shape.{target_count, first_target, contest_of}
+use Rattle.evade_space.specs.Counts.{taken_in, free_in}
 use Rattle.lat_base.specs.Tally.{is_marked, is_overvoted}
 use Rattle.lemmas.proofs.Counting.{count_alike, none_pass, range_le_all}
 use Rattle.evade_space.specs.Sources.{source_at}
@@ -57,3 +61,20 @@ known_row sought s c row free is e f =
       unused = λ j lt. ap (λ (xs : List ℕ). get_or xs j 0) (f ∙ is.free) ∙ get_or-map (λ (b : List Bool). free_marks s.sources b) sought.deck j [] 0 lt;
       few = λ j lt. omega (arith, at j lt, few_taken sought.contests s.sources (get_or sought.deck j []) c is.few);
     }
+
+-- lists mapped by functions that agree on each element
+mapped_alike : (f g : List Bool → ℕ) (xs : List (List Bool)) → All (λ b. f b ≡ g b) xs → map f xs ≡ map g xs
+mapped_alike f g [] h = refl
+mapped_alike f g (x ∷ xs) h = λ i. All-head (λ (b : List Bool). f b ≡ g b) x xs h i ∷ mapped_alike f g xs (All-tail (λ (b : List Bool). f b ≡ g b) x xs h) i
+
+-- a row counted by the set of the sources
+pub row_of_taken : (contests : List Contest) (deck : List (List Bool)) (sought : Sought) (sources : List (Option ℕ)) (c : ℕ) (set : List Bool) (row : List ℕ) → Fits (target_count contests) deck → contests ≡ sought.contests → deck ≡ sought.deck
+    → ((ballot : List Bool) → length ballot ≡ target_count contests → common_count ballot set ≡ taken contests sources ballot c) → row ≡ map (λ ballot. common_count ballot set) deck → row ≡ taken_in sought.contests sought.deck sources c
+row_of_taken contests deck sought sources c set row fits e f count is =
+    is ∙ mapped_alike (λ (b : List Bool). common_count b set) (λ (b : List Bool). taken contests sources b c) deck (λ j d lt. count (get_or deck j d) (fits j d lt)) ∙ (λ i. taken_in (e i) (f i) sources c)
+
+-- a row counted by the set of the unused targets
+pub row_of_unused : (targets : ℕ) (deck : List (List Bool)) (now : List (List Bool)) (sources : List (Option ℕ)) (set : List Bool) (row : List ℕ) → Fits targets deck → deck ≡ now → length sources ≡ targets
+    → ((ballot : List Bool) → length ballot ≡ length sources → common_count ballot set ≡ free_marks sources ballot) → row ≡ map (λ ballot. common_count ballot set) deck → row ≡ free_in now sources
+row_of_unused targets deck now sources set row fits f long count is =
+    is ∙ mapped_alike (λ (b : List Bool). common_count b set) (λ (b : List Bool). free_marks sources b) deck (λ j d lt. count (get_or deck j d) (fits j d lt ∙ sym long)) ∙ (λ i. free_in (f i) sources)

@@ -42,7 +42,6 @@ fn count_taken(alloc: Global, space: &Evade, sources: &[Option<u16>]) -> Result<
 }
 
 // How many ballots may vote for image `u`: none where it has no source.
-#[tactic(auto, using(crate::proofs::KnownRows::none_may))]
 fn count_may(space: &Evade, sources: &[Option<u16>], u: u16) -> u32
     requires sources { AreGiven (target_count space.now.contests) sources.now }
     requires image { u < target_count space.now.contests }
@@ -55,7 +54,6 @@ fn count_may(space: &Evade, sources: &[Option<u16>], u: u16) -> u32
 }
 
 // How many ballots surely vote for image `u`: none where it has no source.
-#[tactic(auto, using(crate::proofs::KnownRows::none_must))]
 fn count_must(space: &Evade, sources: &[Option<u16>], u: u16) -> u32
     requires sources { AreGiven (target_count space.now.contests) sources.now }
     requires image { u < target_count space.now.contests }

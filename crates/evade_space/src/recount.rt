@@ -59,6 +59,26 @@ impl EvadeState {
         }
     }
 
+    // Counts the votes for the images of contest `c` anew where they may have changed: a source of contest
+    // `own` came or went.
+    fn recount_changed(&mut self, space: &Evade, own: u16, c: u16)
+        requires marks { HasMarks space.now self.old }
+        requires contest { c < length space.now.contests }
+        requires beside { HasVotesBeside space.now self.old own }
+        ensures marks { HasMarks space.now self.new }
+        ensures rest { KeepsRest self.old self.new }
+        ensures here { (u : ℕ) → first_target space.now.contests c ≤ u → u < first_target space.now.contests (c + 1) → HasVotes space.now self.new u }
+        ensures elsewhere { (u : ℕ) → (u < first_target space.now.contests c) ⊎ (first_target space.now.contests (c + 1) ≤ u) → HasVotes space.now self.old u → HasVotes space.now self.new u }
+    {
+        if c == own {
+            self.recount_contest(space, c);
+            return;
+        }
+        if is_open(space, self.sources(), c) {
+            self.recount_contest(space, c);
+        }
+    }
+
     // Counts the votes anew where a source of contest `own` came or went: those for its own images, and
     // those for images of contests that have an empty place, since the unused targets are others now.
     pub(crate) fn recount_votes(&mut self, space: &Evade, own: u16)
@@ -67,9 +87,7 @@ impl EvadeState {
         ensures { self.new ≡ keeping self.old (counts_of space.now.contests space.now.deck self.old.sources) }
     {
         for c in 0..space.shape.contests() {
-            if c == own || is_open(space, self.sources(), c) {
-                self.recount_contest(space, c);
-            }
+            self.recount_changed(space, own, c);
         }
     }
 }
