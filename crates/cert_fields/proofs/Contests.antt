@@ -1,5 +1,5 @@
 -- Contests of a style, read one by one.
-use Rattle.std.proofs.Common.{◌≡◌, ℕ, zero, suc, ◌+◌, ◌-◌, ◌≤◌, ◌<◌, Bool, true, false, cond, List, [], ◌∷◌, ◌++◌, length, Option, Some, None, Result, Err, refl, sym, ap, subst, ◌∙◌, append_assoc, arith, leb}
+use Rattle.std.proofs.Common.{◌≡◌, ℕ, suc, ◌+◌, ◌-◌, ◌≤◌, ◌<◌, Bool, true, false, List, [], ◌∷◌, ◌++◌, Option, Some, None, Err, refl, sym, ◌∙◌, arith, leb}
 use Rattle.std.specs.Prelude.{◌==◌}
 use Rattle.std.proofs.lemmas.Bool.{le-leb}
 use Rattle.lat_base.specs.declared.contest.Contest.{Contest}
@@ -8,10 +8,10 @@ use Rattle.lat_base.specs.declared.rules.RuleFault.{RuleFault}
 use Rattle.lat_base.specs.declared.shape_fault.ShapeFault.{ShapeFault}
 use Rattle.lat_base.specs.Names.{is_repeated}
 use Rattle.lat_base.specs.ShapeFault.{shape_fault}
-use Rattle.lat_base.specs.Rules.{RuleSet, rule_fault}
+use Rattle.lat_base.specs.Rules.{rule_fault}
 use Rattle.cert_fields.specs.declared.fault.CertFault.{CertFault}
 use Rattle.cert_fields.specs.declared.fault.CertFault.TheVariants.{NotACertificate, Memory}
-use Rattle.cert_fields.specs.Reading.{◌>>=◌, Gives, u8_at, u16_at, two_at, id_at}
+use Rattle.cert_fields.specs.Reading.{Gives, u8_at, u16_at, two_at, id_at}
 use Rattle.cert_fields.specs.Head.{contest_at, contests_at, rules_at, style_at}
 
 module _ (ns : List ContestNames) (cs : List Contest) (count i : ℕ) (bytes : List ℕ) (total : Option ((List ContestNames × List Contest) × List ℕ)) where

@@ -1,5 +1,5 @@
 -- Labels and reasons are read exactly.
-use Rattle.std.proofs.Common.{◌≡◌, ℕ, ◌≤◌, Bool, true, false, cond, List, [], ◌∷◌, ◌++◌, length, Option, Some, None, refl, sym, ap, subst, ◌∙◌, append_assoc, arith}
+use Rattle.std.proofs.Common.{◌≡◌, ℕ, ◌≤◌, Bool, true, false, cond, List, [], ◌∷◌, ◌++◌, length, Option, Some, None, refl, sym, ap, ◌∙◌, arith}
 use Rattle.std.specs.Prelude.{is_none}
 use Rattle.std.specs.List.{flat_map, AllByRecursion}
 use Rattle.std.proofs.lemmas.Option.{none-some, same_Some}
@@ -14,7 +14,7 @@ use Rattle.lat_misassign.specs.SourceFault.{source_fault}
 use Rattle.lat_misassign.specs.Sources.{AreSources}
 use Rattle.lat_misassign.proofs.Valid.{valid_sources}
 use Rattle.cert_fields.specs.Spelling.{u16_text}
-use Rattle.cert_fields.specs.Reading.{◌>>=◌, u8_at, u16_at, two_at, made_at, tested_at, many_at}
+use Rattle.cert_fields.specs.Reading.{◌>>=◌, u8_at, u16_at, two_at, tested_at, many_at}
 use Rattle.cert_fields.specs.Exact.{Exact}
 use Rattle.cert_fields.proofs.Exact.{step, AnyOf, u8_exact, u16_exact, two_exact, tested_exact, many_exact}
 use Rattle.cert_fields.specs.Trees.{label_text, AnyLabel, skipped_text, AnySkipped, reason_text, IsReason}

@@ -1,9 +1,9 @@
 -- A head is read exactly.
-use Rattle.std.proofs.Common.{◌≡◌, ℕ, zero, suc, ◌+◌, ◌<◌, ◌≤◌, Bool, true, false, cond, eqb, leb, List, [], ◌∷◌, ◌++◌, length, map, All, Option, Some, None, refl, sym, ap, subst, ◌∙◌, append_assoc, arith, length-append}
+use Rattle.std.proofs.Common.{◌≡◌, ℕ, zero, suc, ◌<◌, ◌≤◌, Bool, true, false, cond, List, [], ◌∷◌, ◌++◌, length, Option, Some, None, refl, sym, ap, subst, ◌∙◌, append_assoc, arith, length-append}
 use Rattle.std.specs.Prelude.{◌||◌, ◌==◌, is_none, nat_le}
 use Rattle.std.specs.List.{flat_map, AllByRecursion, list_any}
 use Rattle.std.specs.Str.{bytes_eq}
-use Rattle.std.proofs.lemmas.Bool.{false≢true, or_parts, or_from, le-leb, leb-true, eqb-true}
+use Rattle.std.proofs.lemmas.Bool.{false≢true, or_parts, or_from, leb-true}
 use Rattle.std.proofs.lemmas.Slice.Eq.{bytes_eq-Decides}
 use Rattle.std.proofs.Math.Seq.{get_or-append_seam}
 use Rattle.std.proofs.lemmas.Option.{same_Some, none-some}
@@ -14,7 +14,7 @@ use Rattle.lat_base.specs.declared.shape_fault.ShapeFault.{ShapeFault}
 use Rattle.lat_base.specs.declared.rules.RuleFault.{RuleFault}
 use Rattle.lat_base.specs.Names.{StyleNames, AreNames, contest_ids, has_twice, is_repeated}
 use Rattle.lat_base.specs.ShapeFault.{shape_fault}
-use Rattle.lat_base.specs.Rules.{RuleSet, rule_fault}
+use Rattle.lat_base.specs.Rules.{rule_fault}
 use Rattle.lat_base.proofs.NamesFacts.{names_more}
 use Rattle.lat_base.proofs.ShapeFacts.{is_shape}
 use Rattle.cert_fields.proofs.Limits.{no_shape_fault, no_rule_fault, is_rule_set}
@@ -25,7 +25,7 @@ use Rattle.cert_fields.proofs.Exact.{step, AnyOf, u8_exact, u16_exact, two_exact
 use Rattle.cert_fields.specs.Head.{Head, contest_text, contests_text, rules_text, head_text, IsNamed, AreNamed, IsHead, contest_at, contests_at, flag_at, rules_at, style_at, head_at}
 use Rattle.cert_fields.proofs.Contests.{never_true}
 
-made_by : {A V : Type 0} (make : A → V) (field : List ℕ → Option (A × List ℕ)) (F : A → Type 0) (t : A → List ℕ) (G : V → Type 0) (u : V → List ℕ)
+pub made_by : {A V : Type 0} (make : A → V) (field : List ℕ → Option (A × List ℕ)) (F : A → Type 0) (t : A → List ℕ) (G : V → Type 0) (u : V → List ℕ)
     → Exact field F t → ((a : A) → F a → G (make a) × (u (make a) ≡ t a)) → ((v : V) → G v → (a : A) × (make a ≡ v) × F a × (u v ≡ t a)) → Exact (made_at make field) G u
 made_by {A} {V} make field F t G u x there back = record {
   takes = λ bytes v rest e.
@@ -66,10 +66,10 @@ list_any-append : (p : List ℕ → Bool) (xs ys : List (List ℕ)) → list_any
 list_any-append p [] ys e = (refl, e)
 list_any-append p (x ∷ xs) ys e = let o = or_parts (p x) (list_any p (xs ++ ys)) e in let k = list_any-append p xs ys o.1 in (or_from _ _ o.0 k.0, k.1)
 
-is_same : (xs ys : List ℕ) → bytes_eq xs ys ≡ true → xs ≡ ys
+pub is_same : (xs ys : List ℕ) → bytes_eq xs ys ≡ true → xs ≡ ys
 is_same xs ys e = grind (arith, bytes_eq-Decides)
 
-is_true : (xs ys : List ℕ) → xs ≡ ys → bytes_eq xs ys ≡ true
+pub is_true : (xs ys : List ℕ) → xs ≡ ys → bytes_eq xs ys ≡ true
 is_true xs ys e = grind (arith, bytes_eq-Decides)
 
 bytes_eq-sym : (x y : List ℕ) → bytes_eq x y ≡ false → bytes_eq y x ≡ false
@@ -187,7 +187,7 @@ no-shape-fault : (o : Option ShapeFault) → is_none o ≡ true → o ≡ None
 no-shape-fault None e = refl
 no-shape-fault (Some f) e = absurd (cc)
 
-guard_then : {A : Type 0} (b : Bool) (x y : A) → cond b (Some x) None ≡ Some y → (b ≡ true) × (x ≡ y)
+pub guard_then : {A : Type 0} (b : Bool) (x y : A) → cond b (Some x) None ≡ Some y → (b ≡ true) × (x ≡ y)
 guard_then true x y e = (refl, same_Some x y e)
 guard_then false x y e = absurd (none-some y e)
 

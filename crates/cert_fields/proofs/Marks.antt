@@ -1,17 +1,17 @@
 -- Rows are read exactly.
-use Rattle.std.proofs.Common.{◌≡◌, ℕ, zero, suc, ◌+◌, ◌-◌, ◌*◌, ◌/◌, ◌%◌, ◌<◌, ◌≤◌, Bool, true, false, cond, eqb, List, [], ◌∷◌, ◌++◌, length, map, get_or, take, drop, set, Option, Some, None, refl, sym, ap, subst, ◌∙◌, append_assoc, arith}
+use Rattle.std.proofs.Common.{◌≡◌, ℕ, zero, suc, ◌+◌, ◌-◌, ◌*◌, ◌/◌, ◌%◌, ◌<◌, ◌≤◌, Bool, true, false, cond, eqb, List, [], ◌∷◌, ◌++◌, length, map, get_or, take, drop, set, Option, Some, refl, sym, ap, subst, ◌∙◌, append_assoc, arith}
 use Rattle.std.specs.Int.{bit_at}
 use Rattle.std.specs.Str.{bytes_eq}
 use Rattle.std.specs.List.{range_with_len, AllByRecursion, flat_map}
-use Rattle.std.proofs.lemmas.Option.{same_Some, cond_some}
-use Rattle.std.proofs.lemmas.List.{append-nil, take_all, nil_from_length, length-drop, get_or-set_same, ext_get_or, set-set, set_at, length-take, length-append}
+use Rattle.std.proofs.lemmas.Option.{same_Some}
+use Rattle.std.proofs.lemmas.List.{append-nil, take_all, nil_from_length, length-drop, get_or-set_same, ext_get_or, set-set, set_at, length-take}
 use Rattle.std.proofs.Math.Seq.{drop-cons, take-suc}
 use Rattle.std.proofs.lemmas.List.FromFn.{map-range_with_len_more, length-map-range_with_len, get_or-map-range_with_len}
 use Rattle.std.proofs.lemmas.Slice.Eq.{bytes_eq-Decides}
 use Rattle.cert_fields.specs.Reading.{◌>>=◌, bytes_at, made_at, tested_at, many_at}
 use Rattle.cert_fields.specs.Exact.{Exact}
 use Rattle.cert_fields.proofs.Exact.{step, bytes_exact, tested_exact, many_exact}
-use Rattle.cert_fields.specs.Rows.{worth, byte_text, row_size, row_text, is_bit, marks_of, row_at, rows_at, AreBallots, IsDeckOf, deck_text}
+use Rattle.cert_fields.specs.Rows.{worth, byte_text, row_size, row_text, is_bit, marks_of, row_at, rows_at, IsDeckOf, deck_text}
 use Rattle.lat_ballots.specs.Deck.{Ballots}
 use Rattle.std.proofs.Common.{Err}
 use Rattle.cert_fields.specs.Reading.{Gives}

@@ -1,5 +1,5 @@
 -- Nodes are read exactly, and so are lists of nodes that list one tree.
-use Rattle.std.proofs.Common.{◌≡◌, ℕ, zero, suc, ◌+◌, ◌-◌, ◌≤◌, ◌<◌, List, [], ◌∷◌, ◌++◌, length, Option, Some, None, refl, sym, ap, subst, ◌∙◌, append_assoc, arith, length-append, add-suc}
+use Rattle.std.proofs.Common.{◌≡◌, ℕ, zero, suc, ◌+◌, ◌-◌, ◌≤◌, ◌<◌, List, [], ◌∷◌, ◌++◌, length, Option, Some, None, refl, sym, ap, subst, ◌∙◌, append_assoc, arith, length-append}
 use Rattle.std.proofs.Common.{Err}
 use Rattle.cert_fields.specs.declared.fault.CertFault.{CertFault}
 use Rattle.cert_fields.specs.declared.fault.CertFault.TheVariants.{NotACertificate, Memory}
@@ -12,9 +12,9 @@ use Rattle.tree_core.specs.declared.node.Node.TheVariants.{Close, Fork, Open}
 use Rattle.tree_core.specs.Rose.{Rose, Closed, Forked, Opened, Roses, none, more, count, preorder, preorder_all}
 use Rattle.tree_core.specs.Reading.{front, behind, trees_of, tree_of, first, IsTree}
 use Rattle.cert_fields.specs.Spelling.{u16_text}
-use Rattle.cert_fields.specs.Reading.{◌>>=◌, Gives, u8_at, u16_at, pair_at, made_at}
+use Rattle.cert_fields.specs.Reading.{◌>>=◌, Gives, u8_at, u16_at, pair_at}
 use Rattle.cert_fields.specs.Exact.{Exact}
-use Rattle.cert_fields.proofs.Exact.{step, AnyOf, u16_exact, pair_exact}
+use Rattle.cert_fields.proofs.Exact.{step, u16_exact, pair_exact}
 use Rattle.cert_fields.proofs.Loop.{with_front}
 use Rattle.cert_fields.specs.Trees.{node_text, IsNode, tree_text, IsTreeOf}
 use Rattle.cert_fields.specs.TreeReading.{node_by, node_at, kids_of, wanted_after, nodes_at, tree_at}

@@ -1,5 +1,6 @@
 -- The list of contests of a part of a style: its spelling, and how it is read.
-use Rattle.std.specs.Prelude.{ℕ, ◌+◌, ◌++◌, ◌&&◌, nat_le, nat_lt, Bool, true, List, [], ◌∷◌, length, Option}
+use Rattle.std.specs.Prelude.{ℕ, ◌+◌, ◌++◌, ◌&&◌, nat_le, nat_lt, Bool, true, List, [], ◌∷◌, length}
+use Rattle.std.specs.Prelude.{Option}
 use Rattle.std.specs.List.{flat_map}
 use Rattle.cert_fields.specs.Spelling.{u16_text}
 use Rattle.cert_fields.specs.Reading.{◌>>=◌, u16_at, tested_at, many_at}

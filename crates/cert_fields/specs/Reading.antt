@@ -1,9 +1,14 @@
 -- Reading from left to right, as functions on lists: a value and the bytes behind it, or nothing.
 -- They say how the readers go; what is read is said by the spellings alone.
-use Rattle.std.specs.Prelude.{◌≡◌, ℕ, zero, suc, ◌+◌, ◌*◌, List, [], ◌∷◌, length, take, drop, Bool, Option, Some, None, Result, Ok, Err, nat_lt, if◌then◌else◌}
+use Rattle.std.specs.Prelude.{◌≡◌, ℕ, zero, suc, ◌+◌, ◌*◌, List, [], ◌∷◌, length, take, drop, Bool}
+use Rattle.std.specs.Prelude.{Option, Some, None, Result, Ok, Err, nat_lt, if◌then◌else◌}
 use Rattle.lat_base.specs.Id.{is_id}
 use Rattle.cert_fields.specs.declared.fault.CertFault.{CertFault}
 use Rattle.cert_fields.specs.declared.fault.CertFault.TheVariants.{NotACertificate, Memory}
+
+-- how a field is read: its value and the bytes behind it
+abbrev pub Reader : Type 0 → Type 0
+Reader A = List ℕ → Option (A × List ℕ)
 
 infixl 10 ◌>>=◌
 abbrev pub ◌>>=◌ : {A B : Type 0} → Option A → (A → Option B) → Option B
@@ -28,21 +33,22 @@ u16_at (b ∷ []) = None
 u16_at (b ∷ c ∷ bytes) = if nat_lt c 256 then Some (b * 256 + c, bytes) else None
 
 -- one field and then another, which may depend on it
-abbrev pub pair_at : {A B : Type 0} → (List ℕ → Option (A × List ℕ)) → (A → List ℕ → Option (B × List ℕ)) → List ℕ → Option ((A × B) × List ℕ)
+abbrev pub pair_at : {A B : Type 0} → Reader A → (A → Reader B) → Reader (A × B)
 pair_at first second bytes = first bytes >>= λ a. second a.0 a.1 >>= λ b. Some ((a.0, b.0), b.1)
 
 -- a field whose value passes a test
-abbrev pub tested_at : {A : Type 0} → (A → Bool) → (List ℕ → Option (A × List ℕ)) → List ℕ → Option (A × List ℕ)
+abbrev pub tested_at : {A : Type 0} → (A → Bool) → Reader A → Reader A
 tested_at test field bytes = field bytes >>= λ a. if test a.0 then Some a else None
 
 -- a field seen as another value
-abbrev pub made_at : {A B : Type 0} → (A → B) → (List ℕ → Option (A × List ℕ)) → List ℕ → Option (B × List ℕ)
+abbrev pub made_at : {A B : Type 0} → (A → B) → Reader A → Reader B
 made_at make field bytes = field bytes >>= λ a. Some (make a.0, a.1)
 
 -- so many fields
-abbrev pub many_at : {A : Type 0} → (List ℕ → Option (A × List ℕ)) → ℕ → List ℕ → Option (List A × List ℕ)
+abbrev pub many_at : {A : Type 0} → Reader A → ℕ → Reader (List A)
 many_at field zero bytes = Some ([], bytes)
-many_at field (suc n) bytes = field bytes >>= λ a. many_at field n a.1 >>= λ others. Some (a.0 ∷ others.0, others.1)
+many_at field (suc n) bytes =
+    field bytes >>= λ a. many_at field n a.1 >>= λ others. Some (a.0 ∷ others.0, others.1)
 
 -- so many bytes
 abbrev pub bytes_at : ℕ → List ℕ → Option (List ℕ × List ℕ)

@@ -1,11 +1,13 @@
 -- The spellings of labels, reasons and trees.
-use Rattle.std.specs.Prelude.{◌≡◌, ◌∷◌, ◌++◌, [], ℕ, List, length}
+use Rattle.std.specs.Prelude.{◌∷◌, ◌++◌, [], ℕ, List, length}
 use Rattle.std.specs.List.{flat_map, AllByRecursion}
 use Rattle.cert_fields.specs.Spelling.{u16_text}
 use Rattle.close_rules.specs.declared.label.Label.{Label}
 use Rattle.close_rules.specs.declared.label.Label.TheVariants.{Mark, Split}
 use Rattle.close_rules.specs.declared.reason.Reason.{Reason}
-use Rattle.close_rules.specs.declared.reason.Reason.TheVariants.{Order, Totals, Capacity, Blank, Over, Twin, ContestOrder, Pigeon, Columns, Same, Evade}
+use Rattle.close_rules.specs.declared.reason.Reason.TheVariants.{Order, Totals, Capacity, Blank}
+use Rattle.close_rules.specs.declared.reason.Reason.TheVariants.{Over, Twin, ContestOrder, Pigeon}
+use Rattle.close_rules.specs.declared.reason.Reason.TheVariants.{Columns, Same, Evade}
 use Rattle.evade_space.specs.declared.skipped.Skipped.{Skipped}
 use Rattle.lat_misassign.specs.Sources.{AreSources}
 use Rattle.tree_core.specs.declared.node.Node.{Node}
@@ -63,6 +65,7 @@ IsNode IsLabel IsWhy (Fork l n) = IsLabel l
 abbrev pub tree_text : {B R : Type 0} → (B → List ℕ) → (R → List ℕ) → List (Node B R) → List ℕ
 tree_text label reason nodes = flat_map (node_text label reason) nodes
 
-pub record IsTreeOf {B R : Type 0} (IsLabel : B → Type 0) (IsWhy : R → Type 0) (nodes : List (Node B R)) : Type 0 where
+pub record IsTreeOf {B R : Type 0} (IsLabel : B → Type 0) (IsWhy : R → Type 0)
+    (nodes : List (Node B R)) : Type 0 where
   pub tree : IsTree nodes
   pub each : AllByRecursion (IsNode IsLabel IsWhy) nodes

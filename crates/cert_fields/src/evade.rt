@@ -53,7 +53,8 @@ pub fn take_evade_tree(
     alloc: Global,
     bytes: &[u8],
 ) -> Result<(Tree<u16, Skipped>, usize), CertFault>
-    ensures { Takes (IsTreeOf AnyImage AnySkipped) (tree_text u16_text skipped_text) result bytes.now }
+    ensures { let text = tree_text u16_text skipped_text in
+        Takes (IsTreeOf AnyImage AnySkipped) text result bytes.now }
 {
     take_tree(alloc, bytes)
 }
@@ -64,7 +65,8 @@ pub fn put_evade_tree(
     out: &mut Vec<u8>,
     tree: &Tree<u16, Skipped>,
 ) -> Result<(), AllocError>
-    ensures ok { OnOk result (out.new.items ≡ out.old.items ++ tree_text u16_text skipped_text tree.now) }
+    ensures ok { OnOk result (out.new.items ≡ out.old.items ++
+        tree_text u16_text skipped_text tree.now) }
     ensures err { OnErr result (out.new.items ≡ out.old.items) }
     ensures spelled { OnOk result (IsTreeOf AnyImage AnySkipped tree.now) }
 {

@@ -2,12 +2,15 @@ ghost use Rattle.std.specs.Prelude.{◌≡◌};
 ghost use Rattle.cert_fields.specs.declared.fault.CertFault.TheVariants.{Memory};
 
 use std::alloc::{AllocError, AllocFailed};
+use thiserror::Error;
 
 /// Why bytes could not be read.
-#[derive(Clone, Copy, Debug, PartialEq, Eq)]
+#[derive(Clone, Copy, Debug, PartialEq, Eq, Error)]
 pub enum CertFault {
-    /// They don't begin with a spelling.
+    /// They are no spelling, or begin with none.
+    #[error("not a certificate")]
     NotACertificate,
+    #[error("out of memory")]
     Memory,
 }
 

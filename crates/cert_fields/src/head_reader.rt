@@ -1,8 +1,10 @@
-ghost use Rattle.std.specs.Prelude.{◌≡◌, ◌<◌, ◌^◌, ◌∷◌, [], ℕ, List, Option, Some, None, Result, Ok, Err, IfOk, length, true};
+ghost use Rattle.std.specs.Prelude.{◌≡◌, ◌<◌, ◌^◌, ◌∷◌, [], ℕ, List, Option, Some, None, Result};
+ghost use Rattle.std.specs.Prelude.{Ok, Err, IfOk, length, true};
 ghost use Rattle.lat_base.specs.Names.{StyleNames};
 ghost use Rattle.cert_fields.specs.Spelling.{Begins};
 ghost use Rattle.cert_fields.specs.Reading.{Gives, id_at, many_at};
-ghost use Rattle.cert_fields.specs.Head.{Head, IsHead, head_text, contest_at, contests_at, flag_at, rules_at, style_at, head_at};
+ghost use Rattle.cert_fields.specs.Head.{Head, IsHead, head_text, contest_at, contests_at, flag_at};
+ghost use Rattle.cert_fields.specs.Head.{rules_at, style_at, head_at};
 
 use crate::{CertFault, text_of, two_of, u8_of, u16_of};
 use lat_base::{Contest, Id, NameFault, Names, Names0, Rules, Shape, ShapeFault};
@@ -25,7 +27,8 @@ fn ids_of(alloc: Global, count: u16, bytes: &[u8]) -> Result<(Names0, &[u8]), Ce
 // The ids of a contest and its numbers.
 #[tactic(auto, unfolding(crate::specs::Head::contest_at))]
 fn contest_of(alloc: Global, bytes: &[u8]) -> Result<((Id, Names0, Contest), &[u8]), CertFault>
-    ensures { Gives (λ x. ((record { id = x.0.0; targets = x.0.1 }, x.0.2), x.1.now)) result (contest_at bytes.now) }
+    ensures { Gives (λ x. ((record { id = x.0.0; targets = x.0.1 }, x.0.2), x.1.now)) result
+        (contest_at bytes.now) }
 {
     let (id, rest) = text_of(alloc, bytes)?;
     let (limit, rest) = u16_of(rest)?;
@@ -41,7 +44,8 @@ fn contests_of(
     count: u16,
     bytes: &[u8],
 ) -> Result<(Names, Vec<Contest>, &[u8]), CertFault>
-    ensures read { Gives (λ x. ((x.0.contests, x.1.items), x.2.now)) result (contests_at count [] [] bytes.now) }
+    ensures read { Gives (λ x. ((x.0.contests, x.1.items), x.2.now)) result
+        (contests_at count [] [] bytes.now) }
     ensures style { IfOk result (λ x. x.0.style ≡ style) }
     ensures few { IfOk result (λ x. length x.1.items < 2 ^ 32) }
 {
@@ -98,7 +102,8 @@ fn style_of(alloc: Global, bytes: &[u8]) -> Result<(Names, Shape, &[u8]), CertFa
 /// The head at the front, and the bytes behind it.
 #[tactic(auto, unfolding(crate::specs::Head::head_at))]
 pub fn head_of(alloc: Global, bytes: &[u8]) -> Result<(Names, Shape, Rules, &[u8]), CertFault>
-    ensures { Gives (λ x. (record { names = x.0; contests = x.1; rules = x.2 }, x.3.now)) result (head_at bytes.now) }
+    ensures { Gives (λ x. (record { names = x.0; contests = x.1; rules = x.2 }, x.3.now)) result
+        (head_at bytes.now) }
 {
     match style_of(alloc, bytes) {
         Ok((names, shape, rest)) => match rules_of(rest) {
@@ -111,8 +116,10 @@ pub fn head_of(alloc: Global, bytes: &[u8]) -> Result<(Names, Shape, Rules, &[u8
 
 /// The head whose spelling the bytes begin with, and the length of that spelling.
 pub fn take_head(alloc: Global, bytes: &[u8]) -> Result<(Names, Shape, Rules, usize), CertFault>
-    ensures found { IfOk result (λ x. Begins IsHead head_text bytes.now (record { names = x.0; contests = x.1; rules = x.2 }) x.3) }
-    ensures refused { result ≡ Err CertFault.NotACertificate → (v : Head) (n : ℕ) → Begins IsHead head_text bytes.now v n → ⊥ }
+    ensures found { IfOk result (λ x. Begins IsHead head_text bytes.now
+        (record { names = x.0; contests = x.1; rules = x.2 }) x.3) }
+    ensures refused { result ≡ Err CertFault.NotACertificate →
+        (v : Head) (n : ℕ) → Begins IsHead head_text bytes.now v n → ⊥ }
 {
     match head_of(alloc, bytes) {
         Ok((names, shape, rules, rest)) => Ok((names, shape, rules, bytes.len() - rest.len())),

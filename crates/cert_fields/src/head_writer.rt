@@ -91,8 +91,8 @@ fn append_head(
     append_rules(out, rules)
 }
 
-/// Appends a head: the style's id, its contests with their ids and numbers, and the rules. The names
-/// must fit the shape. After want of memory, which is the only error, nothing is appended.
+/// Appends a head: the style's id, its contests with their ids and numbers, and the rules. The
+/// names must fit the shape. After want of memory, which is the only error, nothing is appended.
 pub fn put_head(
     _alloc: Global,
     out: &mut Vec<u8>,

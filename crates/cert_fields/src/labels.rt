@@ -52,7 +52,9 @@ pub fn put_label(_alloc: Global, out: &mut Vec<u8>, label: &Label) -> Result<(),
 /// The label whose spelling the bytes begin with, and the length of that spelling; `None` exactly
 /// where they begin with none.
 pub fn take_label(bytes: &[u8]) -> Option<(Label, usize)>
-    ensures { MatchOption result ((v : Label) (n : ℕ) → Begins AnyLabel label_text bytes.now v n → ⊥) (λ x. Begins AnyLabel label_text bytes.now x.0 x.1) }
+    ensures { MatchOption result
+        ((v : Label) (n : ℕ) → Begins AnyLabel label_text bytes.now v n → ⊥)
+        (λ x. Begins AnyLabel label_text bytes.now x.0 x.1) }
 {
     match label_of(bytes) {
         Ok((label, rest)) => Some((label, bytes.len() - rest.len())),

@@ -32,3 +32,6 @@ pub use row_writer::put_rows;
 pub use spelt::Spelt;
 pub use texts::{put_text, take_text, text_of};
 pub use trees::{put_deck_tree, put_tree, take_deck_tree, take_tree, tree_of};
+
+#[cfg(test)]
+mod tests;

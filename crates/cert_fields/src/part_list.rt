@@ -59,7 +59,8 @@ pub fn take_contests(
     }
 }
 
-// Appends the number of contests and the contests; after want of memory perhaps only the first ones.
+// Appends the number of contests and the contests; after want of memory perhaps only the first
+// ones.
 fn append_contests(out: &mut Vec<u8>, shape: &Shape, contests: &[u16]) -> Result<(), AllocError>
     requires { IsPart shape.now contests.now }
     ensures ok { OnOk result (out.new.items ≡ out.old.items ++ part_text contests.now) }

@@ -87,7 +87,8 @@ pub(crate) fn reason_of(alloc: Global, bytes: &[u8]) -> Result<(Reason, &[u8]), 
 // Appends the number of sources and the sources; after want of memory perhaps only the first ones.
 fn append_sources(out: &mut Vec<u8>, sources: &[u16]) -> Result<(), AllocError>
     requires { length sources.now ≤ 256 }
-    ensures ok { OnOk result (out.new.items ≡ out.old.items ++ 11 ∷ (u16_text (length sources.now) ++ flat_map u16_text sources.now)) }
+    ensures ok { OnOk result (out.new.items ≡ out.old.items ++
+        11 ∷ (u16_text (length sources.now) ++ flat_map u16_text sources.now)) }
     ensures kept { take (length out.old.items) out.new.items ≡ out.old.items }
 {
     put_one(out, 11, sources.len() as u16)?;
@@ -95,7 +96,8 @@ fn append_sources(out: &mut Vec<u8>, sources: &[u16]) -> Result<(), AllocError>
 }
 
 fn append_evade(out: &mut Vec<u8>, sources: &Misassignment) -> Result<(), AllocError>
-    ensures ok { OnOk result (out.new.items ≡ out.old.items ++ 11 ∷ (u16_text (length sources.now) ++ flat_map u16_text sources.now)) }
+    ensures ok { OnOk result (out.new.items ≡ out.old.items ++
+        11 ∷ (u16_text (length sources.now) ++ flat_map u16_text sources.now)) }
     ensures err { OnErr result (out.new.items ≡ out.old.items) }
     ensures spelled { AreSources sources.now }
 {

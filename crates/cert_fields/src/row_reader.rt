@@ -1,8 +1,11 @@
-ghost use Rattle.std.specs.Prelude.{◌≡◌, ◌≤◌, ◌<◌, ◌*◌, ◌/◌, ◌↔◌, ℕ, length, get_or, take, Option, Result, Ok, Err, IfOk, OnOk, OnErr, IsTrue, MatchResult, slice_set, List, Bool};
+ghost use Rattle.std.specs.Prelude.{◌≡◌, ◌≤◌, ◌<◌, ◌*◌, ◌/◌, ◌↔◌, ℕ, length, get_or, take, Option};
+ghost use Rattle.std.specs.Prelude.{Result, Ok, Err, IfOk, OnOk, OnErr, IsTrue, MatchResult};
+ghost use Rattle.std.specs.Prelude.{slice_set, List, Bool};
 ghost use Rattle.lat_base.specs.Shape.{target_count};
 ghost use Rattle.lat_ballots.specs.Deck.{Ballots, ballot_at};
 ghost use Rattle.cert_fields.specs.Reading.{Gives};
-ghost use Rattle.cert_fields.specs.Rows.{row_text, rows_text, row_size, is_bit, marks_of, row_at, rows_at, IsDeckOf, deck_text};
+ghost use Rattle.cert_fields.specs.Rows.{row_text, rows_text, row_size, is_bit, marks_of, row_at};
+ghost use Rattle.cert_fields.specs.Rows.{rows_at, IsDeckOf, deck_text};
 ghost use Rattle.cert_fields.specs.Spelling.{Takes};
 
 use crate::CertFault;
@@ -23,7 +26,9 @@ fn is_bit(bytes: &[u8], t: u16) -> bool
 fn set_marks(deck: &mut Deck, j: u16, bytes: &[u8])
     requires ballot { j < length deck.old.ballots }
     requires size { length bytes.now ≡ row_size deck.old.targets }
-    ensures { deck.new ≡ record deck.old { ballots = slice_set deck.old.ballots j (marks_of deck.old.targets bytes.now) } }
+    ensures { deck.new ≡ record deck.old {
+      ballots = slice_set deck.old.ballots j (marks_of deck.old.targets bytes.now);
+    } }
 {
     for t in 0..deck.targets() {
         deck.set(j, t, is_bit(bytes, t));
@@ -49,8 +54,11 @@ fn is_row(deck: &Deck, j: u16, bytes: &[u8]) -> bool
 #[tactic(auto, unfolding(crate::specs::Rows::row_at))]
 pub fn row_of<'a>(deck: &mut Deck, j: u16, bytes: &'a [u8]) -> Result<&'a [u8], CertFault>
     requires { j < length deck.old.ballots }
-    ensures read { Gives (λ rest. (ballot_at deck.new j, rest.now)) result (row_at deck.old.targets bytes.now) }
-    ensures deck { OnOk result (deck.new ≡ record deck.old { ballots = slice_set deck.old.ballots j (ballot_at deck.new j) }) }
+    ensures read { Gives (λ rest. (ballot_at deck.new j, rest.now)) result
+        (row_at deck.old.targets bytes.now) }
+    ensures deck { OnOk result (deck.new ≡ record deck.old {
+      ballots = slice_set deck.old.ballots j (ballot_at deck.new j);
+    }) }
 {
     let size = row_size(deck.targets()) as usize;
     if bytes.len() < size {
@@ -72,7 +80,8 @@ pub fn rows_of<'a>(
     k: u16,
 ) -> Result<(Deck, &'a [u8]), CertFault>
     requires { k ≤ 1024 }
-    ensures read { Gives (λ x. (x.0.ballots, x.1.now)) result (rows_at (target_count shape.now) k bytes.now) }
+    ensures read { Gives (λ x. (x.0.ballots, x.1.now)) result
+        (rows_at (target_count shape.now) k bytes.now) }
     ensures targets { IfOk result (λ x. x.0.targets ≡ target_count shape.now) }
 {
     let mut deck = Deck::blank(alloc, shape, k)?;

@@ -2,7 +2,8 @@ ghost use Rattle.std.specs.Prelude.{◌≡◌, ◌++◌, OnOk, OnErr, take, leng
 ghost use Rattle.cert_fields.specs.Spelling.{Takes};
 ghost use Rattle.cert_fields.specs.Reading.{Gives};
 ghost use Rattle.cert_fields.specs.TreeReading.{tree_at};
-ghost use Rattle.cert_fields.specs.Trees.{node_text, IsNode, tree_text, IsTreeOf, AnyLabel, label_text, reason_text, IsReason};
+ghost use Rattle.cert_fields.specs.Trees.{node_text, IsNode, tree_text, IsTreeOf, AnyLabel};
+ghost use Rattle.cert_fields.specs.Trees.{label_text, reason_text, IsReason};
 
 use crate::nodes::nodes_of;
 use crate::{CertFault, Spelt, put_u8, put_u16};
@@ -95,7 +96,8 @@ pub fn take_deck_tree(
     alloc: Global,
     bytes: &[u8],
 ) -> Result<(Tree<Label, Reason>, usize), CertFault>
-    ensures { Takes (IsTreeOf AnyLabel IsReason) (tree_text label_text reason_text) result bytes.now }
+    ensures { let text = tree_text label_text reason_text in
+        Takes (IsTreeOf AnyLabel IsReason) text result bytes.now }
 {
     take_tree(alloc, bytes)
 }
@@ -106,7 +108,8 @@ pub fn put_deck_tree(
     out: &mut Vec<u8>,
     tree: &Tree<Label, Reason>,
 ) -> Result<(), AllocError>
-    ensures ok { OnOk result (out.new.items ≡ out.old.items ++ tree_text label_text reason_text tree.now) }
+    ensures ok { OnOk result (out.new.items ≡ out.old.items ++
+        tree_text label_text reason_text tree.now) }
     ensures err { OnErr result (out.new.items ≡ out.old.items) }
     ensures spelled { OnOk result (IsTreeOf AnyLabel IsReason tree.now) }
 {

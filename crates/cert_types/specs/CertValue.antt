@@ -17,9 +17,17 @@ pub record CertValue : Type 0 where
   pub lower : Option LowerPart
 
 -- a certificate of these parts
-abbrev pub cert_of : StyleNames → List Contest → RuleSet → Verdict → Option Proved → Option LowerPart → CertValue
+abbrev pub cert_of : StyleNames → List Contest → RuleSet → Verdict → Option Proved
+    → Option LowerPart → CertValue
 cert_of names contests rules verdict proved lower =
-    record { names = names; contests = contests; rules = rules; verdict = verdict; proved = proved; lower = lower }
+    record {
+      names = names;
+      contests = contests;
+      rules = rules;
+      verdict = verdict;
+      proved = proved;
+      lower = lower;
+    }
 
 -- the parts are there that the verdict needs, and they fit the style
 pub record IsCertValue (cert : CertValue) : Type 0 where

@@ -27,7 +27,8 @@ lower_size (Bounds f) = size_below f
 
 -- Least has a deck of so many ballots, NoneWithin none; a deck is one of the style's targets
 abbrev pub DeckFits : List Contest → Verdict → Option Proved → Type 0
-DeckFits contests (Least k) (Some proved) = (proved.deck.targets ≡ target_count contests) × (length proved.deck.ballots ≡ k)
+DeckFits contests (Least k) (Some proved) =
+    (proved.deck.targets ≡ target_count contests) × (length proved.deck.ballots ≡ k)
 DeckFits contests (NoneWithin m) None = Unit {0}
 DeckFits contests (Bounds f) None = Unit {0}
 DeckFits contests (Bounds f) (Some proved) = proved.deck.targets ≡ target_count contests

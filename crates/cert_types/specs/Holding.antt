@@ -1,9 +1,9 @@
 -- When a certificate and an open file hold, and the first fault of one that doesn't.
-use Rattle.std.specs.Prelude.{◌≡◌, ℕ, false, Option, Some, None, List, IfSome}
+use Rattle.std.specs.Prelude.{◌≡◌, ℕ, false, Option, Some, List, IfSome}
 use Rattle.lat_base.specs.declared.contest.Contest.{Contest}
 use Rattle.lat_base.specs.Rules.{RuleSet, Obeys}
 use Rattle.cert_types.specs.declared.part.Part.{Part}
-use Rattle.cert_types.specs.declared.part.Part.TheVariants.{Deck, Rules, Robust, Lower, License}
+use Rattle.cert_types.specs.declared.part.Part.TheVariants.{Rules, Robust, Lower, License}
 use Rattle.cert_types.specs.declared.proved.Proved.{Proved}
 use Rattle.cert_types.specs.CertValue.{CertValue}
 use Rattle.cert_types.specs.License.{IsLicense, IsLicenseFault}
@@ -13,17 +13,20 @@ use Rattle.cert_types.specs.OpenValue.{OpenValue}
 use Rattle.cert_types.specs.Proved.{IsProved, IsRobustFault}
 
 -- a deck and a lower part hold, each if it is there
-pub record PartsHold (contests : List Contest) (rules : RuleSet) (proved : Option Proved) (lower : Option LowerPart) : Type 0 where
+pub record PartsHold (contests : List Contest) (rules : RuleSet) (proved : Option Proved)
+    (lower : Option LowerPart) : Type 0 where
   pub deck_holds : IfSome proved (IsProved contests rules)
   pub lower_holds : IfSome lower (IsLower contests rules)
 
--- the first fault of a deck and a lower part: the deck breaks a rule; else a node of its tree doesn't
--- hold; else a node of the lower part's tree doesn't
-abbrev pub IsPartsFault : List Contest → RuleSet → Option Proved → Option LowerPart → Part → ℕ → Type 0
+-- the first fault of a deck and a lower part: the deck breaks a rule; else a node of its tree
+-- doesn't hold; else a node of the lower part's tree doesn't
+abbrev pub IsPartsFault : List Contest → RuleSet → Option Proved → Option LowerPart → Part → ℕ
+    → Type 0
 IsPartsFault contests rules (Some p) lower Rules i = ¬ Obeys contests rules p.deck.ballots × (i ≡ 0)
 IsPartsFault contests rules (Some p) lower Robust i =
     Obeys contests rules p.deck.ballots × IsRobustFault false contests p.deck.ballots p.robust i
-IsPartsFault contests rules proved (Some l) Lower i = IfSome proved (IsProved contests rules) × IsLowerFault contests rules l i
+IsPartsFault contests rules proved (Some l) Lower i =
+    IfSome proved (IsProved contests rules) × IsLowerFault contests rules l i
 IsPartsFault contests rules proved lower part i = ⊥
 
 -- a certificate holds
@@ -39,8 +42,10 @@ pub record OpenHolds (file : OpenValue) : Type 0 where
   pub parts_hold : PartsHold file.contests file.rules file.best file.lower
   pub license_holds : IsLicense file.contests file.rules file.from file.license
 
--- the first fault of an open file: that of its best deck and its lower part, else that of its license
+-- the first fault of an open file: that of its best deck and its lower part, else that of its
+-- license
 abbrev pub IsOpenFault : OpenValue → Part → ℕ → Type 0
 IsOpenFault file License i =
-    PartsHold file.contests file.rules file.best file.lower × IsLicenseFault file.contests file.rules file.from file.license i
+    PartsHold file.contests file.rules file.best file.lower
+    × IsLicenseFault file.contests file.rules file.from file.license i
 IsOpenFault file part i = IsPartsFault file.contests file.rules file.best file.lower part i

@@ -14,8 +14,8 @@ use Rattle.cert_types.specs.LowerPart.{LowerPart}
 abbrev pub lower_root : List Contest → RuleSet → LowerPart → PartialDeck
 lower_root contests rules lower = empty (part contests lower.contests) rules lower.size
 
--- the contests are a part of the style, the nodes list exactly one tree, and it checks there: so no deck
--- of the part of that size is good
+-- the contests are a part of the style, the nodes list exactly one tree, and it checks there: so no
+-- deck of the part of that size is good
 pub record IsLower (contests : List Contest) (rules : RuleSet) (lower : LowerPart) : Type 0 where
   pub is_part : IsPart contests lower.contests
   pub few : lower.size ≤ 1024
@@ -24,4 +24,5 @@ pub record IsLower (contests : List Contest) (rules : RuleSet) (lower : LowerPar
 
 -- the first node of its tree that doesn't hold
 abbrev pub IsLowerFault : List Contest → RuleSet → LowerPart → ℕ → Type 0
-IsLowerFault contests rules lower i = IsFirstFault false deck_steps (lower_root contests rules lower) lower.tree i
+IsLowerFault contests rules lower i =
+    IsFirstFault false deck_steps (lower_root contests rules lower) lower.tree i

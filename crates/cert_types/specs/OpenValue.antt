@@ -21,9 +21,19 @@ pub record OpenValue : Type 0 where
   pub license : License
 
 -- an open file of these parts
-abbrev pub open_of : StyleNames → List Contest → RuleSet → ℕ → ℕ → Option LowerPart → Option Proved → License → OpenValue
+abbrev pub open_of : StyleNames → List Contest → RuleSet → ℕ → ℕ → Option LowerPart
+    → Option Proved → License → OpenValue
 open_of names contests rules max from lower best license =
-    record { names = names; contests = contests; rules = rules; max = max; from = from; lower = lower; best = best; license = license }
+    record {
+      names = names;
+      contests = contests;
+      rules = rules;
+      max = max;
+      from = from;
+      lower = lower;
+      best = best;
+      license = license;
+    }
 
 -- the best deck, if there is one, is of the style's targets
 abbrev pub BestFits : List Contest → Option Proved → Type 0
@@ -33,7 +43,8 @@ BestFits contests (Some best) = best.deck.targets ≡ target_count contests
 -- a deck that was attacked is of the style's targets and has `from` ballots
 abbrev pub LicenseFits : List Contest → ℕ → License → Type 0
 LicenseFits contests from (Tree tree) = Unit {0}
-LicenseFits contests from (Deck deck tree) = (deck.targets ≡ target_count contests) × (length deck.ballots ≡ from)
+LicenseFits contests from (Deck deck tree) =
+    (deck.targets ≡ target_count contests) × (length deck.ballots ≡ from)
 
 -- the numbers are in range, and the parts fit the style and the numbers
 pub record IsOpenValue (file : OpenValue) : Type 0 where

@@ -1,5 +1,5 @@
 -- When a deck with a tree shows that the deck is good, and which of the two fails first.
-use Rattle.std.specs.Prelude.{◌≡◌, ℕ, Bool, true, false, List}
+use Rattle.std.specs.Prelude.{◌≡◌, ℕ, Bool, List}
 use Rattle.lat_base.specs.declared.contest.Contest.{Contest}
 use Rattle.lat_base.specs.Rules.{RuleSet, Obeys}
 use Rattle.lat_base.specs.Shape.{target_count}
@@ -12,16 +12,20 @@ use Rattle.evade_space.specs.Sought.{own_sought, start}
 use Rattle.evade_space.specs.Steps.{evade_steps}
 use Rattle.cert_types.specs.declared.proved.Proved.{Proved}
 
--- the nodes list exactly one tree, and it checks over the misassignments, other than the identity, that
--- leave the deck's own report as it is: so there are none, and the deck is robust
-pub record IsRobustTree (contests : List Contest) (deck : List (List Bool)) (nodes : List (Node ℕ Skipped)) : Type 0 where
+-- the nodes list exactly one tree, and it checks over the misassignments, other than the identity,
+-- that leave the deck's own report as it is: so there are none, and the deck is robust
+pub record IsRobustTree (contests : List Contest) (deck : List (List Bool))
+    (nodes : List (Node ℕ Skipped)) : Type 0 where
   pub lists : IsTree nodes
-  pub checks : Checks (evade_steps (own_sought contests deck)) (start (own_sought contests deck)) (tree_of nodes)
+  pub checks : let sought = own_sought contests deck in
+      Checks (evade_steps sought) (start sought) (tree_of nodes)
 
 -- the first node of such a tree that doesn't hold; where `open_holds` is true an open one does
-abbrev pub IsRobustFault : Bool → List Contest → List (List Bool) → List (Node ℕ Skipped) → ℕ → Type 0
+abbrev pub IsRobustFault : Bool → List Contest → List (List Bool) → List (Node ℕ Skipped) → ℕ
+    → Type 0
 IsRobustFault open_holds contests deck nodes i =
-    IsFirstFault open_holds (evade_steps (own_sought contests deck)) (start (own_sought contests deck)) nodes i
+    let sought = own_sought contests deck in
+    IsFirstFault open_holds (evade_steps sought) (start sought) nodes i
 
 -- a deck of the style obeys the rules, and its tree shows that it is robust
 pub record IsProved (contests : List Contest) (rules : RuleSet) (proved : Proved) : Type 0 where

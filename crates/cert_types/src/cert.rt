@@ -5,9 +5,9 @@ use crate::{Lower, Proved, Verdict};
 use lat_base::{Names, Rules, Shape};
 use std::marker::Model;
 
-/// A certificate: a style with its names and rules, a verdict, and what is to show it. The type keeps
-/// that the parts are there which the verdict needs, and that they fit one another; whether they
-/// hold is a matter of the check.
+/// A certificate: a style with its names and rules, a verdict, and what is to show it. The type
+/// keeps that the parts are there which the verdict needs, and that they fit one another; whether
+/// they hold is a matter of the check.
 #[derive(Debug, Drop)]
 pub struct Cert {
     names: Names,
@@ -25,15 +25,16 @@ impl Model for Cert {
 
     ghost view = { λ a. cert_of a.names a.shape a.rules a.verdict a.proved a.lower };
 
-    ghost invariant = { λ a. IsCertValue (cert_of a.names a.shape a.rules a.verdict a.proved a.lower) };
+    ghost invariant = { λ a.
+        IsCertValue (cert_of a.names a.shape a.rules a.verdict a.proved a.lower) };
 }
 
 impl Cert {
     /// The certificate of these parts. The names must fit the shape. `Least(k)` must have a deck of
-    /// k ballots and `NoneWithin` none; a deck must have the shape's number of targets. A lower part
-    /// must be there for `NoneWithin(m)`, of size m, and for `Least` and `Bounds` of a number n above
-    /// 0, of size n - 1; its contests must be at least one, rising and in the shape. No number of the
-    /// verdict may be above 1,024, nor that of `NoneWithin` be 0.
+    /// k ballots and `NoneWithin` none; a deck must have the shape's number of targets. A lower
+    /// part must be there for `NoneWithin(m)`, of size m, and for `Least` and `Bounds` of a number
+    /// n above 0, of size n - 1; its contests must be at least one, rising and in the shape. No
+    /// number of the verdict may be above 1,024, nor that of `NoneWithin` be 0.
     pub fn new(
         names: Names,
         shape: Shape,

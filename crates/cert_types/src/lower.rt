@@ -2,8 +2,8 @@ use close_rules::{Label, Reason};
 use std::marker::Model;
 use tree_core::Tree;
 
-/// A part of a style, a number of ballots, and a tree over partial decks that shows that no good deck
-/// of the part has `size` ballots; hence none of the style has at most so many. A value may be
+/// A part of a style, a number of ballots, and a tree over partial decks that shows that no good
+/// deck of the part has `size` ballots; hence none of the style has at most so many. A value may be
 /// false: `specs/Lower.antt` says when it holds.
 #[derive(Debug, Drop)]
 pub struct Lower {

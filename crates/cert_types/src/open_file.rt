@@ -5,10 +5,10 @@ use crate::{License, Lower, Proved};
 use lat_base::{Names, Rules, Shape};
 use std::marker::Model;
 
-/// What a plan leaves that spent its budget: the style with its names and rules, the greatest number
-/// of ballots that was asked for, the number below which no deck is good, the best deck so far, and
-/// the search at that number as far as it came. The type keeps that the parts fit one another;
-/// whether they hold is a matter of the check.
+/// What a plan leaves that spent its budget: the style with its names and rules, the greatest
+/// number of ballots that was asked for, the number below which no deck is good, the best deck so
+/// far, and the search at that number as far as it came. The type keeps that the parts fit one
+/// another; whether they hold is a matter of the check.
 #[derive(Debug, Drop)]
 pub struct OpenFile {
     names: Names,
@@ -33,9 +33,9 @@ impl Model for OpenFile {
 }
 
 impl OpenFile {
-    /// The open file of these parts. The names must fit the shape; `max` must be from 1 to 1,024 and
-    /// `from` at most `max`. A lower part must be there exactly where `from` is above 0, of size
-    /// `from - 1`, its contests at least one, rising and in the shape. Each deck must have the
+    /// The open file of these parts. The names must fit the shape; `max` must be from 1 to 1,024
+    /// and `from` at most `max`. A lower part must be there exactly where `from` is above 0, of
+    /// size `from - 1`, its contests at least one, rising and in the shape. Each deck must have the
     /// shape's number of targets, and that of a license `from` ballots.
     pub fn new(
         names: Names,
@@ -133,7 +133,8 @@ impl OpenFile {
         Option<Proved>,
         License,
     )
-        ensures parts { open_of result.0 result.1 result.2 result.3 result.4 result.5 result.6 result.7 ≡ self }
+        ensures parts { self ≡ open_of result.0 result.1 result.2 result.3 result.4 result.5
+            result.6 result.7 }
         ensures kept { IsOpenValue self }
     {
         (

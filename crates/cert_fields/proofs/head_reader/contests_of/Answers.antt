@@ -1,8 +1,7 @@
-use Rattle.std.proofs.Common.{◌≡◌, ◌∙◌, ◌++◌, ◌∷◌, ◌-◌, ◌+◌, [], ap, sym, refl, subst, ℕ, List, length, Vec, Global, false, arith, length-append}
+use Rattle.std.proofs.Common.{◌≡◌, ◌∙◌, ◌++◌, ◌∷◌, [], ap, ℕ, List, Vec, Global, false, arith, length-append}
 use Rattle.std.specs.Borrow.{Bor}
 use Rattle.std.proofs.lemmas.Result.{err_from_is_err_and}
 use Rattle.lat_base.specs.declared.contest.Contest.{Contest}
-use Rattle.lat_base.specs.declared.contest_names.ContestNames.{ContestNames}
 use Rattle.lat_base.specs.Names.{StyleNames, is_repeated}
 use Rattle.std.proofs.Common.{Err}
 use Rattle.lat_base.specs.declared.names.NameFault.{NameFault}

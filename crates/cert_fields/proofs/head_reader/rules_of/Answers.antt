@@ -1,4 +1,4 @@
-use Rattle.std.proofs.Common.{◌≡◌, ◌≤◌, refl, arith}
+use Rattle.std.proofs.Common.{refl}
 use Rattle.cert_fields.proofs.Contests.{rules_none}
 use Rattle.cert_fields.proofs.head_reader.rules_of.Goals as goal
 

@@ -1,8 +1,7 @@
-use Rattle.std.proofs.Common.{◌≡◌, ℕ, List, ap}
-use Rattle.cert_fields.specs.declared.fault.CertFault.{CertFault}
+use Rattle.std.proofs.Common.{◌≡◌, ℕ, List}
 use Rattle.cert_fields.specs.declared.fault.CertFault.TheVariants.{NotACertificate}
 use Rattle.cert_fields.proofs.Exact.{begins, begins_none, no_longer}
-use Rattle.cert_fields.specs.Head.{Head, head_at}
+use Rattle.cert_fields.specs.Head.{head_at}
 use Rattle.std.specs.Borrow.{Bor}
 use Rattle.lat_base.specs.declared.contest.Contest.{Contest}
 use Rattle.lat_base.specs.Names.{StyleNames}

@@ -1,9 +1,9 @@
-use Rattle.std.proofs.Common.{subst, ◌≡◌, ◌<◌, ◌∙◌, ◌+◌, ◌++◌, ◌∷◌, [], ap, sym, ℕ, List, take, length, get_or, append_assoc, arith}
+use Rattle.std.proofs.Common.{◌≡◌, ◌<◌, ◌∙◌, ◌+◌, ◌++◌, ◌∷◌, [], ap, sym, ℕ, List, take, length, get_or, append_assoc, arith}
 use Rattle.std.proofs.lemmas.List.{take_more, length-take-le}
 use Rattle.lat_base.specs.declared.contest.Contest.{Contest}
 use Rattle.lat_base.specs.declared.contest_names.ContestNames.{ContestNames}
-use Rattle.lat_base.specs.Shape.{contest_at, no_contest}
-use Rattle.cert_fields.specs.Head.{contest_text, contests_text, AreNamed}
+use Rattle.lat_base.specs.Shape.{no_contest}
+use Rattle.cert_fields.specs.Head.{contest_text, contests_text}
 use Rattle.cert_fields.proofs.HeadParts.{contests_push, named_push}
 use Rattle.cert_fields.proofs.head_writer.append_contests.Goals as goal
 

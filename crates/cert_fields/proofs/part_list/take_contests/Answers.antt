@@ -1,6 +1,5 @@
-use Rattle.std.proofs.Common.{◌≡◌, ℕ, List, Vec, Global, ap, subst}
+use Rattle.std.proofs.Common.{◌≡◌, ℕ, List, Vec, Global, subst}
 use Rattle.std.specs.Borrow.{Bor}
-use Rattle.cert_fields.specs.declared.fault.CertFault.{CertFault}
 use Rattle.cert_fields.specs.declared.fault.CertFault.TheVariants.{NotACertificate}
 use Rattle.cert_fields.specs.PartList.{part_at}
 use Rattle.cert_fields.proofs.Contests.{given_none}

@@ -1,4 +1,4 @@
-use Rattle.std.proofs.Common.{◌≡◌, ℕ, true, false, length, ◌∙◌, sym, subst, List, arith, refl}
+use Rattle.std.proofs.Common.{◌≡◌, ℕ, true, false, length, ◌∙◌, subst, List, arith, refl}
 use Rattle.std.specs.Prelude.{is_none}
 use Rattle.lat_base.specs.Misassignment.{IsMisassignment}
 use Rattle.lat_misassign.specs.SourceFault.{source_fault}

@@ -1,8 +1,8 @@
 use Rattle.std.proofs.lemmas.Bool.{false≢true}
-use Rattle.std.proofs.Common.{refl, [], ◌≡◌, ◌<◌, ◌≤◌, ◌+◌, ◌*◌, ◌∙◌, ap, sym, ℕ, length, get_or, subst, arith, List, ⊎_elim}
+use Rattle.std.proofs.Common.{refl, [], ◌≡◌, ◌<◌, ◌*◌, ◌∙◌, ap, sym, ℕ, length, get_or, arith, List}
 use borrow.Author.Count.{below_more}
 use Rattle.lat_ballots.specs.Deck.{ballot_at}
-use Rattle.cert_fields.specs.Rows.{byte_text, row_text, row_size}
+use Rattle.cert_fields.specs.Rows.{byte_text, row_size}
 use Rattle.cert_fields.proofs.Marks.{row_byte, row_from_bytes}
 use Rattle.cert_fields.proofs.row_reader.is_row.Goals as goal
 

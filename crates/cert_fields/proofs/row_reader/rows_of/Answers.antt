@@ -1,10 +1,8 @@
-use Rattle.std.proofs.Common.{◌≡◌, ◌∙◌, ◌<◌, ◌++◌, ◌∷◌, [], ap, sym, subst, ◌+◌, Some, ℕ, length, take, set, List, Bool, arith}
-use Rattle.std.specs.Borrow.{Bor}
+use Rattle.std.proofs.Common.{◌≡◌, ◌∙◌, ◌<◌, ◌++◌, ◌∷◌, [], ap, subst, ◌+◌, Some, ℕ, length, take, set, List, Bool, arith}
 use Rattle.std.proofs.lemmas.List.{take_more_set, length-set}
-use Rattle.std.proofs.lemmas.Result.{err_from_is_err_and}
 use Rattle.lat_base.specs.Shape.{target_count}
 use Rattle.lat_ballots.specs.Deck.{Ballots, ballot_at}
-use Rattle.cert_fields.proofs.Loop.{goes_on, stops, is_done}
+use Rattle.cert_fields.proofs.Loop.{goes_on}
 use Rattle.cert_fields.specs.Rows.{row_at, rows_at}
 use Rattle.cert_fields.proofs.row_reader.rows_of.Goals as goal
 

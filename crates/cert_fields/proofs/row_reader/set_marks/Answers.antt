@@ -1,4 +1,4 @@
-use Rattle.std.proofs.Common.{◌≡◌, ◌<◌, ◌≤◌, ◌++◌, [], ◌∙◌, ap, sym, ℕ, length, get_or, take, drop, set, List, Bool, false, arith}
+use Rattle.std.proofs.Common.{◌≡◌, ◌<◌, ◌≤◌, ◌++◌, [], ◌∙◌, ap, sym, length, get_or, take, drop, set, List, Bool, false, arith}
 use Rattle.std.proofs.lemmas.List.FromFn.{length-map-range_with_len, get_or-map-range_with_len}
 use Rattle.lat_ballots.specs.Deck.{Ballots, ballot_at, with_mark}
 use Rattle.cert_fields.specs.Rows.{is_bit, marks_of}

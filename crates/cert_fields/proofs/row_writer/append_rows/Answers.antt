@@ -1,4 +1,4 @@
-use Rattle.std.proofs.Common.{ℕ, List, take}
+use Rattle.std.proofs.Common.{take}
 use Rattle.cert_fields.proofs.Loop.{kept_more}
 use Rattle.cert_fields.specs.Rows.{rows_text}
 use Rattle.cert_fields.proofs.row_writer.append_rows.Goals as goal

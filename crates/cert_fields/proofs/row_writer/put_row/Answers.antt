@@ -1,4 +1,4 @@
-use Rattle.std.proofs.Common.{◌∙◌, ap, ◌++◌, ◌∷◌, [], ℕ, List}
+use Rattle.std.proofs.Common.{◌∙◌, ap, ◌++◌, ◌∷◌, [], ℕ}
 use Rattle.lat_ballots.specs.Deck.{ballot_at}
 use Rattle.cert_fields.proofs.Marks.{bytes_more}
 use Rattle.cert_fields.proofs.row_writer.put_row.Goals as goal

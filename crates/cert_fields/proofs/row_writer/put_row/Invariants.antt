@@ -1,4 +1,4 @@
-use Rattle.std.proofs.Common.{◌≡◌, ◌++◌, ◌*◌, map, length, take}
+use Rattle.std.proofs.Common.{◌≡◌, ◌++◌, ◌*◌, map}
 use Rattle.std.specs.List.{range_with_len}
 use Rattle.lat_ballots.specs.Deck.{ballot_at}
 use Rattle.cert_fields.specs.Rows.{byte_text}

@@ -1,4 +1,4 @@
-use Rattle.std.proofs.Common.{subst, ◌≡◌, ◌∙◌, ◌+◌, ◌++◌, ◌∷◌, [], ap, sym, ℕ, List, take, length, All, get_or}
+use Rattle.std.proofs.Common.{subst, ◌≡◌, ◌∙◌, ◌++◌, ◌∷◌, [], ap, sym, ℕ, List, take, get_or}
 use Rattle.std.proofs.lemmas.List.{take_more, flat_map_more}
 use Rattle.std.proofs.lemmas.List.Elements.{All-more}
 use Rattle.cert_fields.proofs.Loop.{kept_more}

@@ -1,4 +1,4 @@
-use Rattle.std.proofs.Common.{◌≡◌, ◌++◌, take, length, All}
+use Rattle.std.proofs.Common.{◌≡◌, ◌++◌, take, All}
 use Rattle.cert_fields.specs.Trees.{IsNode, tree_text}
 use Rattle.cert_fields.proofs.trees.append_nodes.Given as goal
 

@@ -1,7 +1,6 @@
 use Rattle.std.proofs.Common.{ℕ, List, Vec, Global}
 use Rattle.std.specs.Borrow.{Bor}
 use Rattle.tree_core.specs.declared.node.Node.{Node}
-use Rattle.cert_fields.specs.Exact.{Exact}
 use Rattle.cert_fields.proofs.Exact.{begins, begins_err, no_longer}
 use Rattle.cert_fields.specs.Trees.{IsTreeOf, tree_text}
 use Rattle.cert_fields.specs.TreeReading.{tree_at}
