@@ -2,7 +2,7 @@
 use Rattle.std.proofs.Common.{◌≡◌, ◌<◌, ◌≤◌, ◌+◌, ◌&&◌, ◌∙◌, ℕ, Bool, Some, Option, List, min, count_by, length, get_or, refl, ap, sym, arith}
 use Rattle.std.specs.Prelude.{nat_le}
 use Rattle.lat_base.specs.Shape.{target_count, contest_of, contest_at}
-use Rattle.readings.proofs.Counting.{count_alike}
+use Rattle.lemmas.proofs.Counting.{count_alike}
 use Rattle.evade_space.specs.declared.contest_sets.ContestSets.{ContestSets}
 use Rattle.evade_space.specs.Sources.{source_at, empty_places, AreGiven}
 use Rattle.evade_space.specs.Seen.{taken, free_marks, most_marks}
