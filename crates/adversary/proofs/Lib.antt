@@ -1,2 +1,3 @@
 pub mod Attacks
 pub mod Exchanged
+pub mod PlainRobust

@@ -6,8 +6,10 @@ mod chooser;
 mod columns;
 mod exchange;
 mod order;
+mod plain;
 
 pub use attacking::{Attacked, attack};
+pub use plain::plain_robust;
 
 #[cfg(test)]
 mod tests;

@@ -17,7 +17,8 @@ use Rattle.lat_base.specs.ShapeFault.{shape_fault}
 use Rattle.lat_base.specs.Rules.{rule_fault}
 use Rattle.lat_base.proofs.NamesFacts.{names_more}
 use Rattle.lat_base.proofs.ShapeFacts.{is_shape}
-use Rattle.cert_fields.proofs.Limits.{no_shape_fault, no_rule_fault, is_rule_set}
+use Rattle.lat_base.proofs.ValidFacts.{no_shape_fault, no_rule_fault}
+use Rattle.cert_fields.proofs.Limits.{is_rule_set}
 use Rattle.cert_fields.specs.Spelling.{u16_text, id_text, IsText}
 use Rattle.cert_fields.specs.Reading.{◌>>=◌, u8_at, u16_at, two_at, id_at, pair_at, tested_at, made_at, many_at}
 use Rattle.cert_fields.specs.Exact.{Exact}

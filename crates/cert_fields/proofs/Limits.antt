@@ -1,14 +1,11 @@
--- Styles, rules and parts within their limits have no fault.
-use Rattle.std.proofs.Common.{◌≡◌, ◌≤◌, ◌<◌, ◌+◌, ℕ, Bool, true, false, not, nat_lt, nat_le, List, [], ◌∷◌, length, cond, Option, Some, None, is_some, refl, arith, All}
+-- Rules without a fault are within their limits, and a list of contests that passes the test is a part.
+use Rattle.std.proofs.Common.{◌≡◌, ◌≤◌, ◌<◌, ◌+◌, ℕ, Bool, true, false, nat_lt, nat_le, List, [], ◌∷◌, length, cond, Option, Some, None, refl, arith}
 use Rattle.std.specs.Prelude.{◌==◌, ◌&&◌}
 use Rattle.std.proofs.lemmas.Bool.Decides.{nat_tests}
 use Rattle.std.proofs.lemmas.Bool.{and_parts, and_from, leb-true, le-leb, ltb-true, lt-ltb}
-use Rattle.std.proofs.lemmas.List.Elements.{All-head, All-tail}
 use Rattle.lat_base.specs.declared.contest.Contest.{Contest}
 use Rattle.lat_base.specs.Part.{IsPart}
 use Rattle.lat_base.specs.Rules.{RuleSet, IsRuleSet, rule_fault}
-use Rattle.lat_base.specs.Shape.{IsShape, target_count}
-use Rattle.lat_base.specs.ShapeFault.{shape_fault, contest_fault, is_in_range}
 use Rattle.projection.specs.PartFault.{place_fault}
 use Rattle.projection.proofs.Rising.{Rises, part_rises, sound_part}
 use Rattle.cert_fields.specs.PartList.{rises, is_part}
@@ -17,45 +14,6 @@ neither : {A : Type 0} (p q : A) (rest : Option A) (x y : Bool) → x ≡ false 
 neither p q rest true y e f h = cc
 neither p q rest false true e f h = cc
 neither p q rest false false e f h = h
-
-no_contest_fault : (i : ℕ) (contests : List Contest) → All (λ (c : Contest). (1 ≤ c.limit) × (c.limit ≤ 64)) contests → All (λ (c : Contest). (1 ≤ c.targets) × (c.targets ≤ 64)) contests → contest_fault i contests ≡ None
-no_contest_fault i [] limits counts = refl
-no_contest_fault i (c ∷ contests) limits counts =
-    let limit = All-head (λ (x : Contest). (1 ≤ x.limit) × (x.limit ≤ 64)) c contests limits in
-    let count = All-head (λ (x : Contest). (1 ≤ x.targets) × (x.targets ≤ 64)) c contests counts in
-    let first : not (is_in_range c.limit) ≡ false = grind (arith, nat_tests, limit.0, limit.1) in
-    let second : not (is_in_range c.targets) ≡ false = grind (arith, nat_tests, count.0, count.1) in
-    neither _ _ (contest_fault (i + 1) contests) (not (is_in_range c.limit)) (not (is_in_range c.targets)) first second
-    (no_contest_fault (i + 1) contests (All-tail (λ (x : Contest). (1 ≤ x.limit) × (x.limit ≤ 64)) c contests limits) (All-tail (λ (x : Contest). (1 ≤ x.targets) × (x.targets ≤ 64)) c contests counts))
-
-all_fit : {A : Type 0} (p q r : A) (x y z : Bool) (o : Option A) → x ≡ false → y ≡ false → z ≡ false → o ≡ None → cond x (Some p) (cond y (Some q) (cond (is_some o) o (cond z (Some r) None))) ≡ None
-all_fit p q r true y z o e f g h = cc
-all_fit p q r false true z o e f g h = cc
-all_fit p q r false false true o e f g h = cc
-all_fit p q r false false false None e f g h = refl
-all_fit p q r false false false (Some x) e f g h = cc
-
--- a style has no fault
-pub no_shape_fault : (contests : List Contest) → IsShape contests → shape_fault contests ≡ None
-no_shape_fault contests is =
-    let some : (length contests == 0) ≡ false = let h = is.some in grind (arith, nat_tests, h) in
-    let few : nat_lt 128 (length contests) ≡ false = let h = is.few in grind (arith, nat_tests, h) in
-    let sum : nat_lt 256 (target_count contests) ≡ false = let h = is.few_targets in grind (arith, nat_tests, h) in
-    all_fit _ _ _ (length contests == 0) (nat_lt 128 (length contests)) (nat_lt 256 (target_count contests)) (contest_fault 0 contests) some few sum (no_contest_fault 0 contests is.limits is.counts)
-
-three : {A : Type 0} (p q r : A) (x y z : Bool) → x ≡ false → y ≡ false → z ≡ false → cond x (Some p) (cond y (Some q) (cond z (Some r) None)) ≡ None
-three p q r true y z e f g = cc
-three p q r false true z e f g = cc
-three p q r false false true e f g = cc
-three p q r false false false e f g = refl
-
--- rules within their limits have no fault
-pub no_rule_fault : (rules : RuleSet) → IsRuleSet rules → rule_fault rules ≡ None
-no_rule_fault rules is =
-    let least : nat_lt 64 rules.least ≡ false = let h = is.least in grind (arith, nat_tests, h) in
-    let blank : nat_lt 16 rules.blank ≡ false = let h = is.blank in grind (arith, nat_tests, h) in
-    let over : nat_lt 16 rules.over ≡ false = let h = is.over in grind (arith, nat_tests, h) in
-    three _ _ _ (nat_lt 64 rules.least) (nat_lt 16 rules.blank) (nat_lt 16 rules.over) least blank over
 
 none_of : {A : Type 0} (p q r : A) (x y z : Bool) → cond x (Some p) (cond y (Some q) (cond z (Some r) None)) ≡ None → (x ≡ false) × (y ≡ false) × (z ≡ false)
 none_of p q r true y z e = cc

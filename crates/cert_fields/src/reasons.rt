@@ -9,13 +9,14 @@ use crate::{
     CertFault, Spelt, numbers_of, put_numbers, put_one, put_two, put_u8, two_of, u8_of, u16_of,
 };
 use close_rules::Reason;
+use lat_base::MOST_TARGETS;
 use lat_misassign::{MisFault, Misassignment};
 use std::alloc::{AllocError, Global};
 
 fn is_count(n: u16) -> bool
     ensures { result ≡ is_count n }
 {
-    1 <= n && n <= 256
+    1 <= n && n <= MOST_TARGETS
 }
 
 fn sources_of(alloc: Global, bytes: &[u8]) -> Result<(Misassignment, &[u8]), CertFault>

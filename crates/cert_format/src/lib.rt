@@ -19,6 +19,3 @@ pub use evade::{read_evade, write_evade};
 pub use law::{cert_spellings, evade_spellings, open_spellings};
 pub use open_reader::read_open;
 pub use open_writer::write_open;
-
-#[cfg(test)]
-mod tests;

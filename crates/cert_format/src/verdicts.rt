@@ -6,10 +6,8 @@ ghost use Rattle.cert_format.specs.Reading.{limited_at, verdict_at};
 
 use cert_fields::{put_one, u8_of, u16_of};
 use cert_types::{CertFault, Verdict};
+use lat_base::MOST_BALLOTS;
 use std::alloc::AllocError;
-
-/// The greatest number of ballots of a deck.
-const MOST_BALLOTS: u16 = 1024;
 
 /// The number of two bytes at the front, and the bytes behind them; it must be in range.
 pub(crate) fn limited_of(bytes: &[u8], least: u16, most: u16) -> Result<(u16, &[u8]), CertFault>

@@ -11,6 +11,7 @@ pub mod AskedBallots
 pub mod Levels
 pub mod Largest
 pub mod Capacities
+pub mod AtLevel
 pub mod FewVotes
 pub mod Choices
 pub mod RowVotes

@@ -8,7 +8,8 @@ use Rattle.deck_state.specs.PartialDeck.{PartialDeck}
 use Rattle.deck_state.specs.Votes.{marked_in, possible_in}
 use Rattle.close_rules.specs.Totals.{least_totals, most_voting}
 
--- how many votes a row can give in contest c: none where it is overvoted, else at most the limit, for targets that are marked or undecided
+-- how many votes a row can give in contest c: none where it is overvoted, else at most the limit,
+-- for targets that are marked or undecided
 abbrev pub most_votes : List Contest → ℕ → List Mark → ℕ
 most_votes contests c row =
     if nat_lt (contest_at contests c).limit (marked_in contests row c) then 0
@@ -17,7 +18,8 @@ most_votes contests c row =
 -- a number put into a falling list
 abbrev pub put_falling : ℕ → List ℕ → List ℕ
 put_falling n [] = n ∷ []
-put_falling n (first ∷ rest) = if nat_le first n then n ∷ first ∷ rest else first ∷ put_falling n rest
+put_falling n (first ∷ rest) = if nat_le first n then n ∷ first ∷ rest else first
+    ∷ put_falling n rest
 
 -- the numbers in falling order
 abbrev pub falling : List ℕ → List ℕ

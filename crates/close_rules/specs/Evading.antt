@@ -13,7 +13,8 @@ use Rattle.deck_state.specs.Votes.{marks_in}
 
 -- whether a list has each number below n once
 abbrev pub is_misassignment : ℕ → List ℕ → Bool
-is_misassignment n s = (length s == n) && list_all (λ t. count_by (λ source. source == t) s == 1) (range_with_len 0 n)
+is_misassignment n s = (length s == n) && list_all
+    (λ t. count_by (λ source. source == t) s == 1) (range_with_len 0 n)
 
 -- whether target u counts for itself
 abbrev pub stays : List ℕ → ℕ → Bool
@@ -21,9 +22,11 @@ stays s u = source s u == u
 
 -- whether each mark in contest c is decided
 abbrev pub is_decided : PartialDeck → ℕ → Bool
-is_decided p c = list_all (λ row. list_all (λ mark. not (is_undecided mark)) (marks_in p.contests row c)) p.marks
+is_decided p c = list_all
+    (λ row. list_all (λ mark. not (is_undecided mark)) (marks_in p.contests row c)) p.marks
 
--- whether target u has the same total under the misassignment as under the identity, undecided marks being none
+-- whether target u has the same total under the misassignment as under the identity, undecided
+-- marks being none
 abbrev pub keeps_total : PartialDeck → List ℕ → ℕ → Bool
 keeps_total p s u = total p.contests (shown p) s u == own_total p.contests (shown p) u
 
@@ -39,7 +42,8 @@ is_left contests s c = list_all (stays s) (targets_of contests c)
 abbrev pub keeps_contest : PartialDeck → List ℕ → ℕ → Bool
 keeps_contest p s c = is_left p.contests s c || keeps_totals p s c
 
--- whether a misassignment isn't the identity, and each contest that it doesn't leave as it is keeps its totals
+-- whether a misassignment isn't the identity, and each contest that it doesn't leave as it is
+-- keeps its totals
 abbrev pub evades : PartialDeck → List ℕ → Bool
 evades p s =
     is_misassignment (target_count p.contests) s

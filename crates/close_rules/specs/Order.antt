@@ -4,7 +4,8 @@ use Rattle.deck_state.specs.declared.mark.Mark.{Mark}
 use Rattle.deck_state.specs.declared.mark.Mark.TheVariants.{Marked, Unmarked, Undecided}
 use Rattle.deck_state.specs.PartialDeck.{PartialDeck, row_at}
 
--- whether two rows are decided and equal up to a target at which the first is unmarked and the second marked
+-- whether two rows are decided and equal up to a target at which the first is unmarked and the
+-- second marked
 abbrev pub is_smaller : List Mark → List Mark → Bool
 is_smaller [] other = false
 is_smaller (mark ∷ row) [] = false

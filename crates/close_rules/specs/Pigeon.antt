@@ -13,12 +13,14 @@ choices (suc n) [] = []
 choices (suc n) (first ∷ rest) =
     map (λ chosen. first ∷ chosen) (choices n rest) ++ choices (suc n) rest
 
--- the strictly rising lists of n numbers among so many from `least` on, with a sum of at most `room`
+-- the strictly rising lists of n numbers among so many from `least` on, with a sum of at most
+-- `room`
 abbrev pub rising_lists : (n least many room : ℕ) → List (List ℕ)
 rising_lists n least many room =
     filter (λ totals. nat_le (sum totals) room) (choices n (range_with_len least many))
 
--- the lists of totals that contests of the shape of c can have: strictly rising, from the least total of
+-- the lists of totals that contests of the shape of c can have: strictly rising, from the least
+-- total of
 -- the rules to the number of ballots that can vote, with a sum of at most all votes
 abbrev pub lists_of_totals : PartialDeck → ℕ → List (List ℕ)
 lists_of_totals p c =

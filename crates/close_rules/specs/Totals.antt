@@ -7,7 +7,8 @@ use Rattle.deck_state.specs.PartialDeck.{PartialDeck}
 use Rattle.deck_state.specs.Votes.{hi}
 use Rattle.close_rules.specs.Fixed.{lows}
 
--- the least strictly rising list from a number on, with each entry at least the one that is given for it
+-- the least strictly rising list from a number on, with each entry at least the one that is given
+-- for it
 abbrev pub least_rising : ℕ → List ℕ → List ℕ
 least_rising from [] = []
 least_rising from (low ∷ lows) = max from low ∷ least_rising (max from low + 1) lows
@@ -33,7 +34,8 @@ most_voting p c =
 abbrev pub is_above : ℕ → List ℕ → List ℕ → Bool
 is_above most [] highs = false
 is_above most (low ∷ lows) [] = false
-is_above most (low ∷ lows) (high ∷ highs) = nat_lt high low || (nat_lt most low || is_above most lows highs)
+is_above most (low ∷ lows) (high
+    ∷ highs) = nat_lt high low || (nat_lt most low || is_above most lows highs)
 
 -- whether some least total of contest c is above what its total can be
 abbrev pub has_no_totals : PartialDeck → ℕ → Bool

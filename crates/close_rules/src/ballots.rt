@@ -28,12 +28,7 @@ fn count_overvoted(state: &Partial, c: u16) -> u16
     requires { c < length state.now.contests }
     ensures { result ≡ count_by (may_be_overvoted state.now.contests c) state.now.marks }
 {
-    let limit = state.shape().contest(c).limit;
-    let mut overvoted: u16 = 0;
-    for j in 0..state.ballots() {
-        overvoted += u16::from(state.possible_in(j, c) > limit);
-    }
-    overvoted
+    state.level(c, state.shape().contest(c).limit)
 }
 
 /// Whether contest `c` can be overvoted, and too few ballots can do so.

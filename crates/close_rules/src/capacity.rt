@@ -1,40 +1,25 @@
 ghost use Rattle.std.specs.Prelude.{◌≡◌, ◌<◌, ◌≤◌, length, count_by, nat_lt};
 ghost use Rattle.std.specs.List.{sum};
-ghost use Rattle.deck_state.specs.PartialDeck.{PartialDeck, row_at};
+ghost use Rattle.lat_base.specs.Shape.{contest_at};
+ghost use Rattle.deck_state.specs.PartialDeck.{PartialDeck};
 ghost use Rattle.close_rules.specs.Totals.{least_totals};
 ghost use Rattle.close_rules.specs.Capacity.{most_votes, capacity, has_no_capacity};
 
 use crate::totals::most_voting;
 use deck_state::Partial;
 
-// How many votes ballot j can give in contest c.
-fn most_votes(state: &Partial, c: u16, j: u16) -> u16
-    requires contest { c < length state.now.contests }
-    requires ballot { j < state.now.ballots }
-    ensures { result ≡ most_votes state.now.contests c (row_at state.now j) }
-{
-    let limit = state.shape().contest(c).limit;
-    if state.marked_in(j, c) > limit {
-        0
-    } else {
-        limit.min(state.possible_in(j, c))
-    }
-}
-
-// How many ballots can give more than so many votes in contest c.
+// How many ballots can give more than so many votes in contest c, below its limit.
 fn count_above(state: &Partial, c: u16, votes: u16) -> u16
-    requires { c < length state.now.contests }
-    ensures value { result ≡ count_by (λ row. nat_lt votes (most_votes state.now.contests c row)) state.now.marks }
-    ensures few { result ≤ 1024 }
+    requires contest { c < length state.now.contests }
+    requires below { votes < (contest_at state.now.contests c).limit }
+    ensures { result ≡
+        count_by (λ row. nat_lt votes (most_votes state.now.contests c row)) state.now.marks }
 {
-    let mut above: u16 = 0;
-    for j in 0..state.ballots() {
-        above += u16::from(most_votes(state, c, j) > votes);
-    }
-    above
+    state.level(c, votes)
 }
 
-// How many votes contest c can have in all: the first votes of its ballots, the second ones, and so on.
+// How many votes contest c can have in all: the first votes of its ballots, the second ones, and
+// so on.
 fn capacity(state: &Partial, c: u16) -> u32
     requires { c < length state.now.contests }
     ensures { result ≡ capacity state.now c }

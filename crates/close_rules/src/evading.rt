@@ -68,7 +68,8 @@ fn keeps_contest(state: &Partial, s: &Misassignment, c: u16) -> bool
 // Whether each contest is left as it is, or decided and keeps its totals.
 fn keeps_contests(state: &Partial, s: &Misassignment) -> bool
     requires { length s.now ≡ target_count state.now.contests }
-    ensures { result ≡ list_all (keeps_contest state.now s.now) (range_with_len 0 (length state.now.contests)) }
+    ensures { result
+        ≡ list_all (keeps_contest state.now s.now) (range_with_len 0 (length state.now.contests)) }
 {
     for c in 0..state.shape().contests() {
         if !keeps_contest(state, s, c) {

@@ -125,7 +125,8 @@ fn find_pair(state: &Partial) -> Option<Reason>
     None
 }
 
-// Whether the mark of target t on the last ballot is undecided: then no target has the same marks yet.
+// Whether the mark of target t on the last ballot is undecided: then no target has the same marks
+// yet.
 fn ends_undecided(state: &Partial, t: u16) -> bool
     requires { t < target_count state.now.contests }
     ensures { result ≡ true → (u : ℕ) → refutes state.now (Reason.Same t u) ≡ false }

@@ -27,7 +27,8 @@ pub fn is_fixed(state: &Partial, c: u16) -> bool
 fn compare_lows(state: &Partial, c: u16, d: u16) -> Ordering
     requires first { c < length state.now.contests }
     requires second { d < length state.now.contests }
-    requires alike { (contest_at state.now.contests c).targets ≡ (contest_at state.now.contests d).targets }
+    requires alike { (contest_at state.now.contests c).targets
+        ≡ (contest_at state.now.contests d).targets }
     ensures { result ≡ slice_cmp nat_cmp (lows state.now c) (lows state.now d) }
 {
     let here = state.shape().first_of(c);

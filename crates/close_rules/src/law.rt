@@ -18,16 +18,23 @@ ghost use Rattle.close_rules.specs.Solution.{IsSolution};
 /// A law: where a reason holds of a partial deck, no good canonical deck is left in it. The call does
 /// nothing.
 pub fn refuted_is_empty()
-    ensures { (p : PartialDeck) (reason : Reason) (deck : List (List Bool)) → IsPartial p → refutes p reason ≡ true → IsSolution p deck → ⊥ }
+    ensures { (p : PartialDeck) (reason : Reason) (deck : List (List Bool)) → IsPartial p →
+        refutes p reason ≡ true → IsSolution p deck → ⊥ }
 {}
 
 /// A law: the kids of a partial deck under an allowed label are partial decks, from which `undo` leads
 /// back, and they share its solutions. The call does nothing.
 pub fn kids_share_solutions()
-    ensures partial { (p : PartialDeck) (label : Label) (kid : ℕ) → IsPartial p → is_allowed p label ≡ true → IsPartial (kid_of p label kid) }
-    ensures undone { (p : PartialDeck) (label : Label) (kid : ℕ) → IsPartial p → is_allowed p label ≡ true → undone (kid_of p label kid) ≡ p }
-    ensures of_kid { (p : PartialDeck) (label : Label) (kid : ℕ) (deck : List (List Bool)) → IsPartial p → is_allowed p label ≡ true → IsSolution (kid_of p label kid) deck → IsSolution p deck }
-    ensures in_kid { (p : PartialDeck) (label : Label) (deck : List (List Bool)) → IsPartial p → is_allowed p label ≡ true → IsSolution p deck → IsSolution (kid_of p label 0) deck ⊎ IsSolution (kid_of p label 1) deck }
+    ensures partial { (p : PartialDeck) (label : Label) (kid : ℕ) → IsPartial p →
+        is_allowed p label ≡ true → IsPartial (kid_of p label kid) }
+    ensures undone { (p : PartialDeck) (label : Label) (kid : ℕ) → IsPartial p →
+        is_allowed p label ≡ true → undone (kid_of p label kid) ≡ p }
+    ensures of_kid { (p : PartialDeck) (label : Label) (kid : ℕ) (deck : List (List Bool)) →
+        IsPartial p → is_allowed p label ≡ true → IsSolution (kid_of p label kid) deck →
+        IsSolution p deck }
+    ensures in_kid { (p : PartialDeck) (label : Label) (deck : List (List Bool)) → IsPartial p →
+        is_allowed p label ≡ true → IsSolution p deck →
+        IsSolution (kid_of p label 0) deck ⊎ IsSolution (kid_of p label 1) deck }
 {}
 
 /// A law: a complete partial deck is judged by the reasons. Where none without a misassignment holds,
@@ -35,7 +42,9 @@ pub fn kids_share_solutions()
 /// holds with bounds that say nothing either; and a misassignment that shows that it isn't robust is a
 /// reason. The call does nothing.
 pub fn complete_is_judged()
-    ensures solution { (p : PartialDeck) → IsPartial p → IsComplete p → IsRobust p.contests (shown p) → ((r : Reason) → IsCheap r → refutes p r ≡ false) → IsSolution p (shown p) }
+    ensures solution { (p : PartialDeck) → IsPartial p → IsComplete p →
+        IsRobust p.contests (shown p) → ((r : Reason) → IsCheap r → refutes p r ≡ false) →
+        IsSolution p (shown p) }
     ensures left { (p : PartialDeck) → IsPartial p → IsComplete p →
         ((r : Reason) → IsCheap r → refutes p r ≡ false) →
         Obeys p.contests p.rules (shown p) × IsCanonical p.contests (shown p) }
@@ -43,5 +52,9 @@ pub fn complete_is_judged()
         ((r : Reason) → IsCheap r → refutes p r ≡ false) →
         (r : Reason) → IsCheap r →
         refutes (decided_as p.contests p.rules p.ballots (shown p)) r ≡ false }
-    ensures evaded { (p : PartialDeck) (s : List ℕ) → IsPartial p → IsComplete p → IsMisassignment (target_count p.contests) s → s ≢ identity (target_count p.contests) → report p.contests (shown p) s ≡ report p.contests (shown p) (identity (target_count p.contests)) → refutes p (Reason.Evade s) ≡ true }
+    ensures evaded { (p : PartialDeck) (s : List ℕ) → IsPartial p → IsComplete p →
+        IsMisassignment (target_count p.contests) s → s ≢ identity (target_count p.contests) →
+        report p.contests (shown p) s
+        ≡ report p.contests (shown p) (identity (target_count p.contests)) →
+        refutes p (Reason.Evade s) ≡ true }
 {}

@@ -33,8 +33,10 @@ fn least_sum(from: u16, n: u16) -> u32
     sum
 }
 
-// How many strictly rising lists of n numbers there are where `gap` numbers are left out and the sum is
-// at most `spare` above the least, or `most` where there are more. It stops once there are as many: each
+// How many strictly rising lists of n numbers there are where `gap` numbers are left out and the
+// sum is
+// at most `spare` above the least, or `most` where there are more. It stops once there are as
+// many: each
 // list takes at most n calls, and no call is in vain.
 fn count_lists(most: u16, n: u16, gap: u16, spare: u32) -> u16
     requires short { n + gap ≤ 2048 }
@@ -56,7 +58,8 @@ fn count_lists(most: u16, n: u16, gap: u16, spare: u32) -> u16
     with_first + count_lists(most - with_first, n, gap - 1, spare - u32::from(n))
 }
 
-// How many lists of totals there are for contests of the shape of contest c, or `most` where there are
+// How many lists of totals there are for contests of the shape of contest c, or `most` where there
+// are
 // more.
 fn count_totals(state: &Partial, c: u16, most: u16) -> u16
     requires { c < length state.now.contests }

@@ -99,7 +99,8 @@ fn decide(partial: &mut Partial, marks: [bool; 4]) {
     }
 }
 
-// Decks of two ballots over a contest of two targets and one vote: the marks, whether the ballots are
+// Decks of two ballots over a contest of two targets and one vote: the marks, whether the ballots
+// are
 // in order, whether the columns differ, whether the exchange of the targets changes the totals, and
 // whether no reason but this exchange holds.
 #[test]
@@ -136,7 +137,8 @@ fn asked_ballots(rt: HostRuntime) -> Result<(), Fail> {
     Ok(())
 }
 
-// Contests of one vote and one target, no blank ballot asked for: their total is 0, 1, .., k, so up to
+// Contests of one vote and one target, no blank ballot asked for: their total is 0, 1, .., k, so
+// up to
 // k + 1 of them have different ones.
 #[test]
 fn lists_are_counted(rt: HostRuntime) -> Result<(), Fail> {
@@ -150,7 +152,8 @@ fn lists_are_counted(rt: HostRuntime) -> Result<(), Fail> {
     Ok(())
 }
 
-// Whether there are too many contests of the shape of the first, where the rules ask for 1 of everything.
+// Whether there are too many contests of the shape of the first, where the rules ask for 1 of
+// everything.
 fn refutes_by_count<R: Abort + AllocGlobal>(
     rt: &R,
     contests: &[Contest],
@@ -165,8 +168,10 @@ fn refutes_by_count<R: Abort + AllocGlobal>(
     Ok(())
 }
 
-// Lists of two different totals from 1 to S with a sum of at most S, where one ballot is blank and one
-// overvoted: one where S is 3, two where it is 4, four where it is 5. Contests of another limit don't
+// Lists of two different totals from 1 to S with a sum of at most S, where one ballot is blank and
+// one
+// overvoted: one where S is 3, two where it is 4, four where it is 5. Contests of another limit
+// don't
 // count.
 #[test]
 fn lists_of_two(rt: HostRuntime) -> Result<(), Fail> {
@@ -184,6 +189,25 @@ fn lists_of_two(rt: HostRuntime) -> Result<(), Fail> {
     refutes_by_count(&rt, &three, 6, true)?;
     refutes_by_count(&rt, &three, 7, false)?;
     refutes_by_count(&rt, &mixed, 5, false)?;
+    Ok(())
+}
+
+// Of four different totals from 1 on with a sum of at most S there are 18 lists where S is 15 and
+// 27
+// where it is 16, for twenty contests. Of 64 there are more than anybody counts.
+#[test]
+fn lists_of_more(rt: HostRuntime) -> Result<(), Fail> {
+    let four = Contest {
+        limit: 1,
+        targets: 4,
+    };
+    let wide = Contest {
+        limit: 64,
+        targets: 64,
+    };
+    refutes_by_count(&rt, &[four; 20], 17, true)?;
+    refutes_by_count(&rt, &[four; 20], 18, false)?;
+    refutes_by_count(&rt, &[wide], 1024, false)?;
     Ok(())
 }
 

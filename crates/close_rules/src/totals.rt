@@ -22,7 +22,8 @@ pub fn most_voting(state: &Partial, c: u16) -> u16
 // Whether some least total of contest c is above what its total can be.
 fn is_above(state: &Partial, c: u16) -> bool
     requires { c < length state.now.contests }
-    ensures { result ≡ is_above (most_voting state.now c) (least_totals state.now c) (highs state.now c) }
+    ensures { result
+        ≡ is_above (most_voting state.now c) (least_totals state.now c) (highs state.now c) }
 {
     let most = most_voting(state, c);
     let first = state.shape().first_of(c);

@@ -68,7 +68,8 @@ least_sum p c = sum (range_with_len (first_count p c) (size p c))
 abbrev pub spare : Pattern → ℕ → ℕ
 spare p c = votes p c - least_sum p c
 
--- how far each count can be raised: the last to the number of working ballots, each other to one less
+-- how far each count can be raised: the last to the number of working ballots, each other to one
+-- less
 -- than the next
 abbrev pub gap : Pattern → ℕ → ℕ
 gap p c = p.working + 1 - first_count p c - size p c
@@ -80,7 +81,8 @@ is_raised Least after = false
 is_raised LastFilled after = after == 0
 is_raised Apart after = false
 
--- by how much it is raised: from the last target down, each as far as it can be while votes are left
+-- by how much it is raised: from the last target down, each as far as it can be while votes are
+-- left
 abbrev pub raise : Pattern → (c after : ℕ) → ℕ
 raise p c after = if is_raised p.mode after then min (gap p c) (spare p c - after * gap p c) else 0
 
@@ -88,7 +90,8 @@ raise p c after = if is_raised p.mode after then min (gap p c) (spare p c - afte
 abbrev pub mark_total : Pattern → (c i : ℕ) → ℕ
 mark_total p c i = first_count p c + i + raise p c (size p c - 1 - i)
 
--- marks are laid on places, going round: place q is on working ballot q % working. Those of contest c
+-- marks are laid on places, going round: place q is on working ballot q % working. Those of
+-- contest c
 -- begin at place (step + 1) * c, and those of target i after those of the targets before
 abbrev pub place : Pattern → (c i : ℕ) → ℕ
 place p c i = (p.step + 1) * c + sum_by (mark_total p c) (range_with_len 0 i)

@@ -19,7 +19,8 @@ pub fn checked_tree_leaves_no_good_deck()
     ensures of_size { (contests : List Contest) (rules : RuleSet) (k : ℕ) (tree : Rose Label Reason) → IsShape contests → k ≤ 1024 →
         Checks deck_steps (empty contests rules k) tree →
         (deck : List (List Bool)) → IsGood contests rules deck → length deck ≡ k → ⊥ }
-    ensures below { (contests : List Contest) (rules : RuleSet) (k : ℕ) (tree : Rose Label Reason) → IsShape contests → k ≤ 1024 →
+    ensures below { (contests : List Contest) (rules : RuleSet) (k : ℕ) (tree : Rose Label Reason) →
+        IsShape contests → k ≤ 1024 →
         Checks deck_steps (empty contests rules k) tree → NoGoodBelow contests rules (k + 1) }
 {}
 

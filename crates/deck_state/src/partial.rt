@@ -1,5 +1,6 @@
 ghost use Rattle.std.specs.Prelude.{◌≡◌, ◌<◌, ◌≤◌, ◌-◌, length, slice_get, IfOk};
-ghost use Rattle.lat_base.specs.Shape.{target_count};
+ghost use Rattle.lat_base.specs.Shape.{target_count, contest_at};
+ghost use Rattle.deck_state.specs.Tally.{level_of};
 ghost use Rattle.deck_state.specs.PartialDeck.{PartialDeck, mark_at, row_at, bounds_at, empty};
 ghost use Rattle.deck_state.specs.Trail.{IsPartial};
 ghost use Rattle.deck_state.specs.Votes.{marked_in, possible_in};
@@ -7,7 +8,7 @@ ghost use Rattle.deck_state.specs.Votes.{marked_in, possible_in};
 mod changes;
 mod totals;
 
-use crate::sheet::Sheet;
+use crate::tally::Tally;
 use crate::{Bounds, Mark, Step};
 use lat_base::{Rules, Shape};
 use std::alloc::{AllocError, Global};
@@ -17,7 +18,7 @@ use std::marker::Model;
 /// the total of each target, and the steps that led to it, which can be taken back one by one.
 #[derive(Debug, Drop)]
 pub struct Partial {
-    sheet: Sheet,
+    sheet: Tally,
     rules: Rules,
     ballots: u16,
     bounds: Vec<Bounds>,
@@ -49,7 +50,7 @@ impl Partial {
         let targets = shape.targets();
         let steps = Vec::with_capacity(alloc, 2 * (k as usize * targets as usize))?;
         let bounds = vec![in alloc; Bounds { low: 0, high: k }; targets as usize]?;
-        let sheet = Sheet::blank(alloc, shape, k)?;
+        let sheet = Tally::blank(alloc, shape, k)?;
         Ok(Partial {
             sheet,
             rules: *rules,
@@ -132,6 +133,16 @@ impl Partial {
         ensures { result ≡ possible_in self.now.contests (row_at self.now j) c }
     {
         self.sheet.count(j, c).possible
+    }
+
+    /// On how many ballots contest `c` can have more than `v` votes, or, where `v` is its limit, be
+    /// overvoted.
+    pub fn level(&self, c: u16, v: u16) -> u16
+        requires contest { c < length self.now.contests }
+        requires level { v ≤ (contest_at self.now.contests c).limit }
+        ensures { result ≡ level_of self.now.contests self.now.marks c v }
+    {
+        self.sheet.level(c, v)
     }
 
     /// The bounds that are kept for the total of target `t`.

@@ -54,7 +54,8 @@ abbrev pub with_ballot : Ballots → Mark → Ballots
 with_ballot deck mark.Blank = with_blank deck
 with_ballot deck (mark.Target t) = with_last_mark (with_blank deck) t
 
--- a further row of the last ballot: neither it nor the row before may be blank, and its mark may not be there
+-- a further row of the last ballot: neither it nor the row before may be blank, and its mark may
+-- not be there
 abbrev pub with_further : Ballots → Mark → Option Ballots
 with_further deck mark.Blank = None
 with_further deck (mark.Target t) =
@@ -75,11 +76,13 @@ deck_row names row deck fields = do
 abbrev pub deck_from : List FullName → ℕ → Ballots → List (List (List ℕ)) → Result Ballots CsvFault
 deck_from names row deck [] = Ok deck
 deck_from names row deck (fields ∷ rows) =
-    if length fields == 3 then deck_row names row deck fields >>= (λ more. deck_from names (row + 1) more rows)
+    if length fields == 3 then deck_row names row deck fields >>=
+    (λ more. deck_from names (row + 1) more rows)
     else Err (NotCsv row)
 
 -- the deck of a file's records
-abbrev pub deck_read : List Contest → List ContestNames → List (List (List ℕ)) → Result Ballots CsvFault
+abbrev pub deck_read : List Contest → List ContestNames → List (List (List ℕ))
+    → Result Ballots CsvFault
 deck_read contests names records = do
   rows ← after_header deck_fields records
   deck_from (target_names names) 2 (blank_ballots (target_count contests) 0) rows

@@ -17,7 +17,8 @@ abbrev pub mark_line : List FullName → List ℕ → List Bool → ℕ → List
 mark_line names number ballot t =
     if is_marked ballot t then line number (name_at names t).contest (name_at names t).target else []
 
--- the rows of a ballot: one for each marked target, in target order, or one row without names where nothing is marked
+-- the rows of a ballot: one for each marked target, in target order, or one row without names
+-- where nothing is marked
 abbrev pub ballot_lines : List FullName → List ℕ → List Bool → List ℕ
 ballot_lines names number ballot =
     if is_blank ballot then line number [] []
@@ -29,4 +30,5 @@ numbered_lines names deck j = ballot_lines names (decimal (j + 1)) (get_or deck 
 
 -- the text of a deck's file
 abbrev pub deck_text : List ContestNames → List (List Bool) → List ℕ
-deck_text contests deck = deck_header ++ flat_map (numbered_lines (target_names contests) deck) (range_with_len 0 (length deck))
+deck_text contests deck = deck_header
+    ++ flat_map (numbered_lines (target_names contests) deck) (range_with_len 0 (length deck))

@@ -11,4 +11,5 @@ pub record IsDraft (ballots : ℕ) (whole : Ballots) : Type 0 where
   pub deck : IsDeck whole
   pub used : ballots ≤ 1024
   pub most : length whole.ballots ≡ 1024
-  pub blank : (j : ℕ) → ballots ≤ j → j < length whole.ballots → get_or whole.ballots j [] ≡ replicate whole.targets false
+  pub blank : (j : ℕ) → ballots ≤ j → j < length whole.ballots
+      → get_or whole.ballots j [] ≡ replicate whole.targets false

@@ -1,4 +1,5 @@
--- The names of a style's targets. A target's id is unique only within its contest, so both ids name it.
+-- The names of a style's targets. A target's id is unique only within its contest, so both ids
+-- name it.
 use Rattle.std.specs.Prelude.{ℕ, ◌&&◌, Bool, List, [], map, get_or, Option}
 use Rattle.std.specs.List.{flat_map, position_from}
 use Rattle.std.specs.Str.{bytes_eq}

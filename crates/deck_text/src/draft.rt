@@ -96,7 +96,8 @@ impl Draft {
     /// Adds the mark of a row of the ballot of that number, which is the last or a new one. False
     /// where it repeats what the last ballot has.
     pub fn add(&mut self, number: u16, mark: Mark) -> bool
-        requires number { (number ≡ length self.old.ballots + 1) ⊎ (number ≡ length self.old.ballots) }
+        requires number { (number ≡ length self.old.ballots + 1) ⊎
+            (number ≡ length self.old.ballots) }
         requires range { (0 < number) × (number ≤ 1024) }
         requires mark { IsMarkOf self.old.targets mark }
         ensures added { OnTrue result (with_row self.old number mark ≡ Some self.new) }

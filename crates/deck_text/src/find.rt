@@ -32,7 +32,8 @@ fn find_in(shape: &Shape, names: &Names, c: u16, contest: &[u8], target: &[u8]) 
 #[tactic(auto, using(crate::proofs::Called::contest_called, crate::proofs::Called::next_first))]
 pub fn find_target(shape: &Shape, names: &Names, contest: &[u8], target: &[u8]) -> Option<u16>
     requires { NamesFit names.now.contests shape.now }
-    ensures number { result ≡ target_called (target_names names.now.contests) contest.now target.now }
+    ensures number { result
+        ≡ target_called (target_names names.now.contests) contest.now target.now }
     ensures range { IfSome result (λ t. t < target_count shape.now) }
 {
     for c in 0..shape.contests() {

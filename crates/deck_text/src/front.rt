@@ -12,7 +12,8 @@ fn copy_ballot(deck: &mut Deck, whole: &Deck, j: u16)
     requires ballot { j < length deck.old.ballots }
     requires whole { j < length whole.now.ballots }
     requires targets { deck.old.targets ≡ whole.now.targets }
-    ensures { deck.new ≡ record deck.old { ballots = slice_set deck.old.ballots j (ballot_at whole.now j) } }
+    ensures { deck.new
+        ≡ record deck.old { ballots = slice_set deck.old.ballots j (ballot_at whole.now j) } }
 {
     let _ballots = deck.ballots();
     for t in 0..whole.targets() {

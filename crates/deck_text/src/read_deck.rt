@@ -61,7 +61,9 @@ fn add_row(
     requires fit { NamesFit names.now.contests shape.now }
     requires targets { draft.old.targets ≡ target_count shape.now }
     ensures ok { OnOk result (deck_row (target_names names.now.contests) row draft.old (fields_of fields.now) ≡ Ok draft.new) }
-    ensures fault { IfErr result (λ fault. deck_row (target_names names.now.contests) row draft.old (fields_of fields.now) ≡ Err fault) }
+    ensures fault { IfErr result
+        (λ fault. deck_row (target_names names.now.contests) row draft.old (fields_of fields.now)
+        ≡ Err fault) }
     ensures targets { OnOk result (draft.new.targets ≡ draft.old.targets) }
     ensures rows { OnOk result (deck_rows draft.new.ballots ≡ deck_rows draft.old.ballots + 1) }
 {
@@ -88,7 +90,8 @@ fn read_rows(
 ) -> Result<Draft, CsvFail>
     requires fit { NamesFit names.now.contests shape.now }
     requires targets { draft.targets ≡ target_count shape.now }
-    ensures deck { Gives (λ deck. deck) result (deck_from (target_names names.now.contests) 2 draft rows.entry) }
+    ensures deck { Gives
+        (λ deck. deck) result (deck_from (target_names names.now.contests) 2 draft rows.entry) }
     ensures targets { IfOk result (λ deck. deck.targets ≡ target_count shape.now) }
 {
     let mut row: u32 = 2;
@@ -124,7 +127,8 @@ pub fn read_deck_csv(
     bytes: &[u8],
 ) -> Result<Deck, CsvFail>
     requires { NamesFit names.now.contests shape.now }
-    ensures deck { Gives (λ deck. deck) result (deck_read shape.now names.now.contests (file_records bytes.now)) }
+    ensures deck { Gives
+        (λ deck. deck) result (deck_read shape.now names.now.contests (file_records bytes.now)) }
     ensures targets { IfOk result (λ deck. deck.targets ≡ target_count shape.now) }
 {
     let rows = Records::open(alloc, bytes, b"ballot", b"contest", b"target")?;

@@ -39,7 +39,9 @@ fn add_row(
     requires fit { NamesFit names.now.contests shape.now }
     requires targets { length totals.old ≡ target_count shape.now }
     ensures ok { OnOk result (report_row (target_names names.now.contests) row totals.old (fields_of fields.now) ≡ Ok totals.new) }
-    ensures fault { IfErr result (λ fault. report_row (target_names names.now.contests) row totals.old (fields_of fields.now) ≡ Err fault) }
+    ensures fault { IfErr result
+        (λ fault. report_row (target_names names.now.contests) row totals.old (fields_of fields.now)
+        ≡ Err fault) }
     ensures rows { OnOk result (total_rows totals.new ≡ total_rows totals.old + 1) }
 {
     let Some(total) = number_in(field(fields, 2), u32::MAX) else {

@@ -30,9 +30,11 @@ impl<'a> Model for Records<'a> {
 
     ghost Value = { List (List (List ℕ)) };
 
-    ghost view = { λ a. left_of (reader_state a.reader) (unwrap_or (source_of (λ (s : Bor (List ℕ)). Some s.now) a.reader) []) };
+    ghost view = { λ a. left_of (reader_state a.reader) (unwrap_or (source_of
+        (λ (s : Bor (List ℕ)). Some s.now) a.reader) []) };
 
-    ghost invariant = { λ a. (reader_config a.reader ≡ default_config) × (reader_trim a.reader ≡ trim.None) × (is_flexible a.reader ≡ false)
+    ghost invariant = { λ a. (reader_config a.reader ≡ default_config) ×
+        (reader_trim a.reader ≡ trim.None) × (is_flexible a.reader ≡ false)
         × (took_first a.reader ≡ true) × (expected_len a.reader ≡ Some 3) × (ends_at_end (reader_state a.reader) ≡ false)
         × IsSome (source_of (λ (s : Bor (List ℕ)). Some s.now) a.reader) };
 }
@@ -48,7 +50,8 @@ pub fn field(fields: &ByteRecord, i: usize) -> &[u8]
 }
 
 fn is_header(fields: &ByteRecord, first: &[u8], second: &[u8], third: &[u8]) -> bool
-    ensures { result ≡ pointwise bytes_eq (fields_of fields.now) (first.now ∷ second.now ∷ third.now ∷ []) }
+    ensures { result
+        ≡ pointwise bytes_eq (fields_of fields.now) (first.now ∷ second.now ∷ third.now ∷ []) }
 {
     fields.len() == 3
         && field(fields, 0) == first
@@ -63,7 +66,8 @@ fn table_reader(alloc: Global, bytes: &[u8]) -> Reader<&[u8]>
     ensures flexible { is_flexible result ≡ false }
     ensures headers { (names_headers result ≡ false) × (reader_headers result ≡ None) }
     ensures state { reader_state result ≡ st.StartRecord }
-    ensures source { source_of (λ (s : Bor (List ℕ)). Some s.now) result ≡ Some (strip_bom bytes.now) }
+    ensures source { source_of (λ (s : Bor (List ℕ)). Some s.now) result
+        ≡ Some (strip_bom bytes.now) }
 {
     ReaderBuilder::new()
         .has_headers(false)
@@ -80,7 +84,9 @@ impl<'a> Records<'a> {
         second: &[u8],
         third: &[u8],
     ) -> Result<Records<'a>, CsvFail>
-        ensures { Gives (λ records. records) result (after_header (first.now ∷ second.now ∷ third.now ∷ []) (file_records bytes.now)) }
+        ensures { Gives
+            (λ records. records) result (after_header (first.now ∷ second.now ∷ third.now
+            ∷ []) (file_records bytes.now)) }
     {
         let mut reader = table_reader(alloc, bytes);
         let mut fields = ByteRecord::new(alloc);
@@ -101,8 +107,12 @@ impl<'a> Records<'a> {
     /// Reads the next record, which is row `row`: the records after it, or nothing where none is
     /// left. `NotCsv` where it hasn't three fields.
     pub fn next(mut self, row: u32, fields: &mut ByteRecord) -> Result<Option<Records<'a>>, CsvFail>
-        ensures found { IfOk result (λ o. MatchOption o (self.entry ≡ []) (λ rest. (self.entry ≡ fields_of fields.new ∷ rest) × (length (fields_of fields.new) ≡ 3))) }
-        ensures other { IfErr result (λ e. e ≢ CsvFail.Memory → (e ≡ CsvFail.Fault (CsvFault.NotCsv row))
+        ensures found { IfOk result
+            (λ o. MatchOption o (self.entry ≡ [])
+            (λ rest. (self.entry ≡ fields_of fields.new ∷ rest) ×
+            (length (fields_of fields.new) ≡ 3))) }
+        ensures other { IfErr result
+            (λ e. e ≢ CsvFail.Memory → (e ≡ CsvFail.Fault (CsvFault.NotCsv row))
             × (fields : List (List ℕ)) × (rest : List (List (List ℕ))) × (self.entry ≡ fields ∷ rest) × (length fields ≢ 3)) }
     {
         match self.reader.read_byte_record(fields) {

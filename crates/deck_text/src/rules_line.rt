@@ -89,7 +89,9 @@ pub fn rules_line(
 ) -> Result<Vec<u8>, AllocError>
     requires fit { NamesFit names.now.contests shape.now }
     requires deck { deck.now.targets ≡ target_count shape.now }
-    ensures { IfOk result (λ text. text.items ≡ rules_text names.now.contests (broken_rule shape.now rules.now deck.now.ballots)) }
+    ensures { IfOk result
+        (λ text. text.items
+        ≡ rules_text names.now.contests (broken_rule shape.now rules.now deck.now.ballots)) }
 {
     match obeys(shape, rules, deck) {
         Ok(()) => {

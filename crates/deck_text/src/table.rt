@@ -22,7 +22,8 @@ impl Model for Table {
 
     ghost view = { λ a. unwrap_or (text_written (λ (v : Vec ℕ Global). Some v.items) a.writer) [] };
 
-    ghost invariant = { λ a. (writer_setup a.writer ≡ default_writer) × (fields_written a.writer ≡ 0) × (has_written a.writer ≡ false) };
+    ghost invariant = { λ a. (writer_setup a.writer ≡ default_writer) ×
+        (fields_written a.writer ≡ 0) × (has_written a.writer ≡ false) };
 }
 
 impl Table {

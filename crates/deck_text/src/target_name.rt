@@ -19,7 +19,8 @@ impl<'a> TargetName<'a> {
     pub fn of(shape: &Shape, names: &'a Names, t: u16) -> TargetName<'a>
         requires fit { NamesFit names.now.contests shape.now }
         requires target { t < target_count shape.now }
-        ensures contest { result.contest.now ≡ (name_at (target_names names.now.contests) t).contest }
+        ensures contest { result.contest.now
+            ≡ (name_at (target_names names.now.contests) t).contest }
         ensures target { result.target.now ≡ (name_at (target_names names.now.contests) t).target }
         ensures contest_id { IsTrue (list_all is_id_byte result.contest.now) }
         ensures target_id { IsTrue (list_all is_id_byte result.target.now) }

@@ -24,7 +24,8 @@ fn source_line(
     requires fit { NamesFit names.now.contests shape.now }
     requires sources { length s.now ≡ target_count shape.now }
     requires image { u < target_count shape.now }
-    ensures { IfOk result (λ line. line.items ≡ source_line (target_names names.now.contests) s.now u) }
+    ensures { IfOk result
+        (λ line. line.items ≡ source_line (target_names names.now.contests) s.now u) }
 {
     let _sources = s.len();
     let t = s.source(u);
@@ -48,7 +49,9 @@ fn evader_lines(
 ) -> Result<Vec<u8>, AllocError>
     requires fit { NamesFit names.now.contests shape.now }
     requires sources { length s.now ≡ target_count shape.now }
-    ensures { IfOk result (λ text. text.items ≡ attack_text (target_names names.now.contests) (Attacked.Evaded s.now)) }
+    ensures { IfOk result
+        (λ text. text.items
+        ≡ attack_text (target_names names.now.contests) (Attacked.Evaded s.now)) }
 {
     let mut text = Vec::from_slice(alloc, b"evaded\n")?;
     for u in 0..s.len() {
@@ -66,8 +69,10 @@ fn attack_lines(
     attack: &Attacked,
 ) -> Result<Vec<u8>, AllocError>
     requires fit { NamesFit names.now.contests shape.now }
-    requires sources { (s : List ℕ) → attack.now ≡ Attacked.Evaded s → length s ≡ target_count shape.now }
-    ensures { IfOk result (λ text. text.items ≡ attack_text (target_names names.now.contests) attack.now) }
+    requires sources { (s : List ℕ) → attack.now ≡ Attacked.Evaded s →
+        length s ≡ target_count shape.now }
+    ensures { IfOk result
+        (λ text. text.items ≡ attack_text (target_names names.now.contests) attack.now) }
 {
     match attack {
         Attacked::Evaded(s) => evader_lines(alloc, shape, names, s),
@@ -92,8 +97,11 @@ pub fn verify_text(
 ) -> Result<Vec<u8>, AllocError>
     requires fit { NamesFit names.now.contests shape.now }
     requires deck { deck.now.targets ≡ target_count shape.now }
-    requires sources { (s : List ℕ) → attack.now ≡ Attacked.Evaded s → length s ≡ target_count shape.now }
-    ensures { IfOk result (λ text. text.items ≡ verify_text shape.now names.now rules.now deck.now.ballots attack.now) }
+    requires sources { (s : List ℕ) → attack.now ≡ Attacked.Evaded s →
+        length s ≡ target_count shape.now }
+    ensures { IfOk result
+        (λ text. text.items
+        ≡ verify_text shape.now names.now rules.now deck.now.ballots attack.now) }
 {
     let mut text = Vec::from_slice(alloc, b"style ")?;
     text.extend_from_slice(names.style().as_bytes())?;

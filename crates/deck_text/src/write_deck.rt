@@ -25,7 +25,9 @@ fn write_mark(
     requires number { IsTrue (list_all is_id_byte number.now) }
     requires ballot { j < length deck.now.ballots }
     requires target { t < deck.now.targets }
-    ensures { IfOk result (λ after. after ≡ table ++ (if mark_at deck.now j t then line number.now contest.now target.now else [])) }
+    ensures { IfOk result
+        (λ after. after
+        ≡ table ++ (if mark_at deck.now j t then line number.now contest.now target.now else [])) }
 {
     if !deck.is_marked(j, t) {
         return Ok(table);
@@ -89,7 +91,9 @@ fn write_ballot(
 ) -> Result<Table, AllocError>
     requires targets { length (target_names names.now.contests) ≡ deck.now.targets }
     requires ballot { j < length deck.now.ballots }
-    ensures { IfOk result (λ after. after ≡ table ++ numbered_lines (target_names names.now.contests) deck.now.ballots j) }
+    ensures { IfOk result
+        (λ after. after
+        ≡ table ++ numbered_lines (target_names names.now.contests) deck.now.ballots j) }
 {
     let _ballots = deck.ballots();
     let number = (j + 1).to_string(alloc)?;

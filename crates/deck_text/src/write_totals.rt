@@ -24,7 +24,9 @@ fn write_total(
     requires fit { NamesFit names.now.contests shape.now }
     requires targets { deck.now.targets ≡ target_count shape.now }
     requires target { t < target_count shape.now }
-    ensures { IfOk result (λ after. after ≡ table ++ total_line shape.now (target_names names.now.contests) deck.now.ballots t) }
+    ensures { IfOk result
+        (λ after. after
+        ≡ table ++ total_line shape.now (target_names names.now.contests) deck.now.ballots t) }
 {
     let name = TargetName::of(shape, names, t);
     let votes = total(shape, deck, t).to_string(alloc)?;
@@ -45,7 +47,8 @@ pub fn totals_csv(
 ) -> Result<Vec<u8>, AllocError>
     requires fit { NamesFit names.now.contests shape.now }
     requires targets { deck.now.targets ≡ target_count shape.now }
-    ensures { IfOk result (λ bytes. bytes.items ≡ totals_text shape.now names.now.contests deck.now.ballots) }
+    ensures { IfOk result
+        (λ bytes. bytes.items ≡ totals_text shape.now names.now.contests deck.now.ballots) }
 {
     let mut table = Table::new(alloc).row(b"contest", b"target", b"total")?;
     for t in 0..shape.targets() {

@@ -29,7 +29,8 @@ definition_in value = do
   styles ← styles_of contests top
   Ok (record { rules = rules; styles = styles })
 
--- the JSON value that the bytes spell: none where they are no text in UTF-8, and else what serde_json reads
+-- the JSON value that the bytes spell: none where they are no text in UTF-8, and else what
+-- serde_json reads
 abbrev pub json_of : List ℕ → Option Data
 json_of bytes = if is_utf8 bytes then read bytes else None
 

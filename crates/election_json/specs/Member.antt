@@ -1,4 +1,5 @@
--- A member of a JSON object and its kind: an object, true or false, a whole number, an array, an id.
+-- A member of a JSON object and its kind: an object, true or false, a whole number, an array, an
+-- id.
 use Rattle.std.specs.Prelude.{◌||◌, ℕ, Bool, List, [], ◌∷◌, length, nat_lt, is_some, if◌then◌else◌, option_and_then, Result, Ok, Err}
 use Rattle.std.specs.List.{list_any}
 use Rattle.std.specs.Option.{option_map}
@@ -27,7 +28,8 @@ boolean place value = or_fault (as_bool value) (WrongKind place)
 abbrev pub is_outside : ℕ → ℕ → ℕ → Bool
 is_outside low high n = nat_lt n low || nat_lt high n
 
--- a whole number of that range. A JSON number is whole where it is read as an unsigned 64-bit integer
+-- a whole number of that range. A JSON number is whole where it is read as an unsigned 64-bit
+-- integer
 abbrev pub number : ℕ → ℕ → Place → Data → Result ℕ DefFault
 number low high place value = do
   n ← or_fault (option_and_then as_u64 (as_number value)) (WrongKind place)

@@ -39,14 +39,16 @@ abbrev pub style_ids : List DefinedStyle → List (List ℕ)
 style_ids styles = map (λ s. s.names.style) styles
 
 -- the contest whose id an entry of a style is; it is none of the earlier ones of that style
-abbrev pub chosen_contest : List ContestEntry → List (List ℕ) → Place → Data → Result ContestEntry DefFault
+abbrev pub chosen_contest : List ContestEntry → List (List ℕ) → Place → Data
+    → Result ContestEntry DefFault
 chosen_contest contests earlier place value = do
   text ← id_text place value
   contest ← or_fault (find (λ c. bytes_eq text c.id) contests) (UnknownContest place)
   if list_any (bytes_eq text) earlier then Err (Repeated place) else Ok contest
 
 -- contest number j of style number i, after the earlier ones of that style
-abbrev pub next_chosen : List ContestEntry → ℕ → ℕ → List ContestEntry → Data → Result ContestEntry DefFault
+abbrev pub next_chosen : List ContestEntry → ℕ → ℕ → List ContestEntry → Data
+    → Result ContestEntry DefFault
 next_chosen contests i j earlier value =
     chosen_contest contests (ids_of earlier) (at.StyleContest i j) value
 
@@ -56,7 +58,8 @@ of_few_targets place style =
     if nat_lt 256 (target_count style.shape) then Err (TooManyTargets place (target_count style.shape)) else Ok style
 
 -- style number i, whose id is none of the earlier ids
-unfoldable pub style_entry : List ContestEntry → List (List ℕ) → ℕ → Data → Result DefinedStyle DefFault
+unfoldable pub style_entry : List ContestEntry → List (List ℕ) → ℕ → Data
+    → Result DefinedStyle DefFault
 style_entry contests earlier i value = do
   style ← object (at.Style i) value
   id ← member (codes "id") (at.StyleId i) style >>= new_id earlier (at.StyleId i)
@@ -65,7 +68,8 @@ style_entry contests earlier i value = do
   of_few_targets (at.Style i) (style_with id chosen)
 
 -- style number i, after the earlier styles
-abbrev pub next_style : List ContestEntry → ℕ → List DefinedStyle → Data → Result DefinedStyle DefFault
+abbrev pub next_style : List ContestEntry → ℕ → List DefinedStyle → Data
+    → Result DefinedStyle DefFault
 next_style contests i earlier value = style_entry contests (style_ids earlier) i value
 
 -- the member `styles` of a definition that has these contests

@@ -33,7 +33,8 @@ impl ContestTable {
     /// The number of the contest that has this id.
     #[tactic(auto, using(crate::proofs::Chosen::found_id))]
     pub fn number_of(&self, id: &[u8]) -> Option<u32>
-        ensures found { option_map (entry_at self.now) result ≡ find (λ c. bytes_eq id.now c.id) self.now }
+        ensures found { option_map (entry_at self.now) result
+            ≡ find (λ c. bytes_eq id.now c.id) self.now }
         ensures within { IfSome result (λ c. c < length self.now) }
         ensures same { IfSome result (λ c. (entry_at self.now c).id ≡ id.now) }
     {

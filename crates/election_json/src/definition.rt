@@ -27,7 +27,9 @@ impl Model for Definition {
 
     ghost view = { λ a. record { rules = a.rules; styles = kept_styles a.contests a.styles.items } };
 
-    ghost invariant = { λ a. IsDefinition (record { rules = a.rules; styles = kept_styles a.contests a.styles.items }) × All (IsWithin a.contests) a.styles.items };
+    ghost invariant = { λ a. IsDefinition
+        (record { rules = a.rules; styles = kept_styles a.contests a.styles.items }) ×
+        All (IsWithin a.contests) a.styles.items };
 }
 
 // The place of the style that has this id.
@@ -58,7 +60,8 @@ impl Definition {
     /// The place of the style that has this id, counted from 0; `None` where no style has it.
     pub fn style(&self, id: &str) -> Option<u32>
         ensures place { result ≡ position (λ s. bytes_eq id.now s.names.style) self.now.styles }
-        ensures found { IfSome result (λ i. (i < length self.now.styles) × ((style_at self.now i).names.style ≡ id.now)) }
+        ensures found { IfSome result
+            (λ i. (i < length self.now.styles) × ((style_at self.now i).names.style ≡ id.now)) }
         ensures none { IsNone result ↔ All (λ s. s.names.style ≢ id.now) self.now.styles }
     {
         match find_style(self.styles.as_slice(), id.as_bytes()) {

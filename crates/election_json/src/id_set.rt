@@ -34,7 +34,8 @@ impl IdSet {
     #[tactic(auto, using(crate::proofs::Lists::any_map))]
     pub fn insert(&mut self, alloc: Global, id: &[u8]) -> Result<bool, AllocError>
         ensures new { IfOk result (λ r. r ≡ not (list_any (bytes_eq id.now) self.old)) }
-        ensures ids { IfOk result (λ r. self.new ≡ (if r then self.old ++ id.now ∷ [] else self.old)) }
+        ensures ids { IfOk result
+            (λ r. self.new ≡ (if r then self.old ++ id.now ∷ [] else self.old)) }
     {
         let owned = Vec::from_slice(alloc, id)?;
         let new = self.ids.insert(owned)?;

@@ -59,8 +59,10 @@ fn read(alloc: Global, bytes: &[u8]) -> Result<Definition, DefFail>
 /// where memory runs out.
 pub fn read_definition(alloc: Global, bytes: &[u8]) -> Result<Definition, DefFail>
     ensures ok { IfOk result (λ d. definition_of bytes.now ≡ Ok d) }
-    ensures fault { (f : DefFault) → result ≡ Err (DefFail.Fault f) → definition_of bytes.now ≡ Err f }
-    // No definition is refused and no fault is passed over: what is given is what is meant, memory aside.
+    ensures fault { (f : DefFault) → result ≡ Err (DefFail.Fault f) →
+        definition_of bytes.now ≡ Err f }
+    // No definition is refused and no fault is passed over: what is given is what is meant, memory
+    // aside.
     ensures exact { Gives (λ d. d) result (definition_of bytes.now) }
     ensures limits { IfOk result IsDefinition }
 {

@@ -26,7 +26,8 @@ fn chosen_contest(
 ) -> Result<u32, DefFail>
     ensures gives { Gives (entry_at contests.now) result
         (chosen_contest contests.now earlier.old place (view value.now)) }
-    ensures added { IfOk result (λ c. earlier.new ≡ earlier.old ++ (entry_at contests.now c).id ∷ []) }
+    ensures added { IfOk result
+        (λ c. earlier.new ≡ earlier.old ++ (entry_at contests.now c).id ∷ []) }
     ensures within { IfOk result (λ c. c < length contests.now) }
 {
     let id = id_of(alloc, value, place)?;
@@ -145,7 +146,8 @@ pub fn styles_of(
     contests: &ContestTable,
     top: &Value,
 ) -> Result<Vec<StyleEntry>, DefFail>
-    ensures gives { Gives (λ ss. kept_styles contests.now ss.items) result (styles_of contests.now (view top.now)) }
+    ensures gives { Gives
+        (λ ss. kept_styles contests.now ss.items) result (styles_of contests.now (view top.now)) }
     ensures within { IfOk result (λ ss. All (IsWithin contests.now) ss.items) }
 {
     let values = member(top, "styles", Place::Styles)?;

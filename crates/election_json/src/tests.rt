@@ -210,7 +210,8 @@ fn entries(alloc: Global, front: &str, n: u32, back: &str) -> Result<String, All
     Ok(text)
 }
 
-// Arrays that are too long: the text before the array, its length, the text after it, and the fault.
+// Arrays that are too long: the text before the array, its length, the text after it, and the
+// fault.
 const LONG: [(&str, &str, u32, &str, DefFault); 4] = [
     (IN_CONTESTS, "[", 4097, "]}", OutOfRange(Contests, 4097)),
     (

@@ -50,7 +50,7 @@ most_factorial (suc (suc n)) =
     larger m a f h two = omega (arith, h, two)
 
 -- a target that no image has
-not_used : (y : ℕ) (xs : List (Option ℕ)) → ((w : ℕ) → source_at xs w ≡ Some y → ⊥) → is_used xs y ≡ false
+pub not_used : (y : ℕ) (xs : List (Option ℕ)) → ((w : ℕ) → source_at xs w ≡ Some y → ⊥) → is_used xs y ≡ false
 not_used y [] h = refl
 not_used y (None ∷ xs) h = not_used y xs (λ w e. h (suc w) e)
 not_used y (Some x ∷ xs) h = by_test (x == y) refl (not_used y xs (λ w e. h (suc w) e))
@@ -171,4 +171,3 @@ module _ (sought : Sought) where
       let most = subst (λ (n : ℕ). count_by is_pick (preorder (tree_of nodes)) ≤ most_nodes n) all bound in
       let same : count_by is_pick (preorder (tree_of nodes)) ≡ budget = ap (count_by is_pick) open_tree.lists ∙ open_tree.count in
       omega (arith, most, same, most_factorial (target_count sought.contests))
-

@@ -28,7 +28,11 @@ fn count_row(alloc: Global, deck: &Deck, targets: &Row) -> Result<Vec<u16>, Allo
 }
 
 // For each contest, how many sources of its images each ballot marks.
-fn count_taken(alloc: Global, space: &Evade, sources: &[Option<u16>]) -> Result<Vec<Vec<u16>>, AllocError>
+fn count_taken(
+    alloc: Global,
+    space: &Evade,
+    sources: &[Option<u16>],
+) -> Result<Vec<Vec<u16>>, AllocError>
     requires { AreGiven (target_count space.now.contests) sources.now }
     ensures { IfOk result (λ rows. map (λ row. row.items) rows.items ≡ map (taken_in space.now.contests space.now.deck sources.now) (range_with_len 0 (length space.now.contests))) }
 {
@@ -67,7 +71,11 @@ fn count_must(space: &Evade, sources: &[Option<u16>], u: u16) -> u32
 
 /// All counts of the deck under these sources.
 #[tactic(auto, using(lemmas::proofs::Ranges::made_more))]
-pub fn count_all(alloc: Global, space: &Evade, sources: &[Option<u16>]) -> Result<KeptCounts, AllocError>
+pub fn count_all(
+    alloc: Global,
+    space: &Evade,
+    sources: &[Option<u16>],
+) -> Result<KeptCounts, AllocError>
     requires { AreGiven (target_count space.now.contests) sources.now }
     ensures { IfOk result (λ counts. counts ≡ counts_of space.now.contests space.now.deck sources.now) }
 {

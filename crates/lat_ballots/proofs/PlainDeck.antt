@@ -89,7 +89,7 @@ twice_sum targets rules (suc n) =
     omega (arith, sum, last, here, twice_sum targets rules n, triangle_more n, product_more n (rules.least - 1))
 
 -- so many ballots are there in the end
-plain_long : (targets : ℕ) (rules : RuleSet) → length (plain_ballots targets rules).ballots ≡ plain_size targets rules
+pub plain_long : (targets : ℕ) (rules : RuleSet) → length (plain_ballots targets rules).ballots ≡ plain_size targets rules
 plain_long targets rules =
     let full = replicate rules.over (replicate targets true) in
     let each = flat_map (only_ballots targets rules) (range_with_len 0 targets) in
@@ -130,3 +130,20 @@ built_rows targets n t k rules rows new row few e end built is count whole fits 
       },
       ap (λ (m : ℕ). ballots_of m new) e ∙ deck,
     )
+
+-- each ballot has a mark or none for each target
+pub plain_fits : (targets : ℕ) (rules : RuleSet) → All (λ (b : List Bool). length b ≡ targets) (plain_ballots targets rules).ballots
+plain_fits targets rules =
+    All-append (λ (b : List Bool). length b ≡ targets) (replicate rules.over (replicate targets true) ++ flat_map (only_ballots targets rules) (range_with_len 0 targets)) (replicate rules.blank (replicate targets false))
+    (All-append (λ (b : List Bool). length b ≡ targets) (replicate rules.over (replicate targets true)) (flat_map (only_ballots targets rules) (range_with_len 0 targets))
+    (All-replicate (λ (b : List Bool). length b ≡ targets) rules.over (replicate targets true) (length-replicate targets true)) (runs (range_with_len 0 targets)))
+    (All-replicate (λ (b : List Bool). length b ≡ targets) rules.blank (replicate targets false) (length-replicate targets false))
+  where
+    All-nil : All (λ (b : List Bool). length b ≡ targets) []
+    All-nil i d lt = absurd (omega arith)
+
+    runs : (ts : List ℕ) → All (λ (b : List Bool). length b ≡ targets) (flat_map (only_ballots targets rules) ts)
+    runs [] = All-nil
+    runs (t ∷ ts) =
+        All-append (λ (b : List Bool). length b ≡ targets) (only_ballots targets rules t) (flat_map (only_ballots targets rules) ts)
+        (All-replicate (λ (b : List Bool). length b ≡ targets) (t + 1 + (rules.least - 1)) (only targets t) (length-set (replicate targets false) t true ∙ length-replicate targets false)) (runs ts)

@@ -35,7 +35,8 @@ impl Deck {
     #[tactic(auto, using(crate::proofs::PlainDeck::built_first, crate::proofs::PlainDeck::built_more))]
     pub fn plain(alloc: Global, shape: &Shape, rules: &Rules) -> Result<Deck, AllocError>
         requires { plain_size (target_count shape.now) rules.now ≤ 1024 }
-        ensures { IfOk result (λ deck. deck ≡ plain_ballots (target_count shape.now) rules.now) }
+        ensures plain { IfOk result (λ deck. deck ≡ plain_ballots (target_count shape.now) rules.now) }
+        ensures size { IfOk result (λ deck. length deck.ballots ≡ plain_size (target_count shape.now) rules.now) }
     {
         let targets = shape.targets();
         let more = rules.least().saturating_sub(1);

@@ -22,9 +22,11 @@ pub record IsGood (contests : List Contest) (rules : RuleSet) (deck : List (List
 
 -- no deck of fewer than n ballots is good
 abbrev pub NoGoodBelow : List Contest → RuleSet → ℕ → Type 0
-NoGoodBelow contests rules n = (deck : List (List Bool)) → length deck < n → ¬ IsGood contests rules deck
+NoGoodBelow contests rules n = (deck : List (List Bool)) → length deck < n
+    → ¬ IsGood contests rules deck
 
 -- some deck of k ballots is good, and none of fewer
 abbrev pub IsLeastSize : List Contest → RuleSet → ℕ → Type 0
 IsLeastSize contests rules k =
-    ((deck : List (List Bool)) × IsGood contests rules deck × (length deck ≡ k)) × NoGoodBelow contests rules k
+    ((deck : List (List Bool)) × IsGood contests rules deck × (length deck ≡ k))
+    × NoGoodBelow contests rules k

@@ -21,7 +21,8 @@ contest_at contests c = get_or contests c no_contest
 -- the number of the contest that target t is of
 abbrev pub contest_of : List Contest → ℕ → ℕ
 contest_of [] t = 0
-contest_of (c ∷ contests) t = if nat_lt t c.targets then 0 else suc (contest_of contests (t - c.targets))
+contest_of (c
+    ∷ contests) t = if nat_lt t c.targets then 0 else suc (contest_of contests (t - c.targets))
 
 -- a contest with more targets than votes: only such a one can be overvoted
 abbrev pub CanOvervote : Contest → Type 0

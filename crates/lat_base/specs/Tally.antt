@@ -1,4 +1,5 @@
--- How votes are counted. A ballot is a list of truth values, one for each target; a deck is a list of ballots.
+-- How votes are counted. A ballot is a list of truth values, one for each target; a deck is a list
+-- of ballots.
 use Rattle.std.specs.Prelude.{ℕ, ◌+◌, ◌&&◌, Bool, false, List, map, get_or, slice_range, count_by, not, nat_lt}
 use Rattle.std.specs.List.{range_with_len}
 use Rattle.lat_base.specs.declared.contest.Contest.{Contest}
@@ -25,7 +26,8 @@ mark_count contests ballot c = count_by (λ mark. mark) (marks_in contests ballo
 abbrev pub is_overvoted : List Contest → List Bool → ℕ → Bool
 is_overvoted contests ballot c = nat_lt (contest_at contests c).limit (mark_count contests ballot c)
 
--- whether a ballot, as read, votes for target u: it marks u, and no more targets of u's contest than the limit
+-- whether a ballot, as read, votes for target u: it marks u, and no more targets of u's contest
+-- than the limit
 abbrev pub votes_for : List Contest → List Bool → ℕ → Bool
 votes_for contests read u = is_marked read u && not (is_overvoted contests read (contest_of contests u))
 

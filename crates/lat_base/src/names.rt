@@ -1,7 +1,7 @@
 ghost use Rattle.std.specs.Prelude.{◌≡◌, ◌<◌, ◌↔◌, [], true, false, length, get_or, OnOk, OnErr, Err, IsTrue};
 ghost use Rattle.std.specs.List.{list_any};
 ghost use Rattle.std.specs.Str.{bytes_eq};
-ghost use Rattle.lat_base.specs.Names.{names_at, with_contest, is_repeated, NamesFit};
+ghost use Rattle.lat_base.specs.Names.{AreNames, names_at, with_contest, is_repeated, NamesFit};
 
 use crate::{ContestNames, Id, Names0, Shape};
 use std::alloc::{AllocError, Global};
@@ -93,6 +93,13 @@ impl Names {
         ensures { result.now ≡ self.now.style }
     {
         &self.style
+    }
+
+    /// A law: no contest's id stands twice, and no target's id within a contest. The call does nothing.
+    pub fn stand_once(&self)
+        ensures { AreNames self.now.contests }
+    {
+        let _contests = self.contests.len();
     }
 
     /// The ids of the contests and their targets, in order.

@@ -141,7 +141,8 @@ impl Shape {
         requires { t < target_count self.now }
         ensures value { result ≡ contest_of self.now t }
         ensures within { result < length self.now }
-        ensures place { (first_target self.now result ≤ t) × (t < first_target self.now (result + 1)) }
+        ensures place { (first_target self.now result ≤ t) ×
+            (t < first_target self.now (result + 1)) }
     {
         let mut rest = t;
         for (i, contest) in self.contests.iter().enumerate() {

@@ -58,7 +58,8 @@ abbrev pub broken_distinct : List Contest → RuleSet → List (List Bool) → O
 broken_distinct contests rules deck =
     if rules.distinct then first_broken (broken_equal contests deck) (range_with_len 0 (target_count contests)) else None
 
--- the first rule that is broken: blank ballots, overvotes contest by contest, least totals target by target, equal totals pair by pair
+-- the first rule that is broken: blank ballots, overvotes contest by contest, least totals target
+-- by target, equal totals pair by pair
 abbrev pub broken_rule : List Contest → RuleSet → List (List Bool) → Option Broken
 broken_rule contests rules deck =
     or_else (broken_blank rules deck)

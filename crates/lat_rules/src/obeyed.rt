@@ -31,7 +31,8 @@ fn find_broken(shape: &Shape, rules: &Rules, deck: &Deck) -> Option<Broken>
 #[tactic(auto, using(crate::proofs::Unbroken::obeyed, crate::proofs::Unbroken::unbroken, crate::proofs::Named::named))]
 pub fn obeys(shape: &Shape, rules: &Rules, deck: &Deck) -> Result<(), Broken>
     requires { deck.now.targets ≡ target_count shape.now }
-    ensures broken { (b : Broken) → (result ≡ Err b) ↔ (broken_rule shape.now rules.now deck.now.ballots ≡ Some b) }
+    ensures broken { (b : Broken) → (result ≡ Err b) ↔
+        (broken_rule shape.now rules.now deck.now.ballots ≡ Some b) }
     ensures named { (b : Broken) → result ≡ Err b → IsNamed shape.now b }
     ensures ok { IsOk result ↔ Obeys shape.now rules.now deck.now.ballots }
 {

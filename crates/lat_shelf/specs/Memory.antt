@@ -41,7 +41,8 @@ pub record Told : Type 0 where
 
 abbrev pub schedule_code : Coded Schedule
 schedule_code =
-    code_by (ℕ × List ℕ) (coded× coded_ℕ (coded_list coded_ℕ)) (λ s. (s.made, s.failing)) (λ p. record { made = p.0; failing = p.1 }) (λ _. refl)
+    code_by (ℕ × List ℕ) (coded× coded_ℕ (coded_list coded_ℕ)) (λ s. (s.made, s.failing))
+    (λ p. record { made = p.0; failing = p.1 }) (λ _. refl)
 
 abbrev pub calls_code : Coded (Schedule × (Schedule × Schedule))
 calls_code = coded× schedule_code (coded× schedule_code schedule_code)
@@ -77,7 +78,8 @@ has_failed (Ok a) = false
 has_failed (Err Failed) = true
 has_failed (Err Memory) = false
 
--- `open` fails exactly where the call is to fail or the name is missing, and a missing name alone is no fault
+-- `open` fails exactly where the call is to fail or the name is missing, and a missing name alone
+-- is no fault
 pub record OpensMemory (old new : Told) (name : List ℕ) (failed : Bool) : Type 0 where
   pub exact : failed ≡ (fails_next old.opens || is_none (map.get old.files name))
   pub faults : new.faults ≡ faults_after old.faults (fails_next old.opens)

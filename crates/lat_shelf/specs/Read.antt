@@ -9,7 +9,8 @@ IsFile files name bytes = IfSome files (λ fs. get fs name ≡ Some bytes)
 
 -- the named file has more bytes than the limit, where files are told
 abbrev pub IsLonger : Option Files → List ℕ → ℕ → Type 0
-IsLonger files name limit = IfSome files (λ fs. (bytes : List ℕ) × (get fs name ≡ Some bytes) × (limit < length bytes))
+IsLonger files name limit = IfSome files
+    (λ fs. (bytes : List ℕ) × (get fs name ≡ Some bytes) × (limit < length bytes))
 
 -- these bytes and those left are the named file's, where both are told
 abbrev pub ReadSoFar : Option Files → List ℕ → List ℕ → Option (List ℕ) → Type 0

@@ -23,7 +23,8 @@ Opens None name left = ⊤
 Opens (Some files) name None = ⊤
 Opens (Some files) name (Some bytes) = get files name ≡ Some bytes
 
--- the first n bytes left stand at the front of buf and are no longer left; n is 0 only where nothing is left or buf is empty
+-- the first n bytes left stand at the front of buf and are no longer left; n is 0 only where
+-- nothing is left or buf is empty
 pub record Takes (before after buf : List ℕ) (n : ℕ) : Type 0 where
   pub within : n ≤ length before
   pub front : take n buf ≡ take n before
@@ -44,4 +45,5 @@ NoneOpen left = left ≡ Some []
 abbrev pub SameBut : List ℕ → Option Files → Option Files → Type 0
 SameBut name None after = after ≡ None
 SameBut name (Some before) None = ⊥
-SameBut name (Some before) (Some after) = (other : List ℕ) → other ≢ name → get after other ≡ get before other
+SameBut name (Some before) (Some after) = (other : List ℕ) → other ≢ name
+    → get after other ≡ get before other

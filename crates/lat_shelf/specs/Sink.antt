@@ -5,4 +5,5 @@ use Rattle.std.specs.Prelude.{◌≡◌, ◌≤◌, ◌++◌, ℕ, List, take, l
 abbrev pub AddsFront : List ℕ → Option (List ℕ) → Option (List ℕ) → Type 0
 AddsFront piece None after = after ≡ None
 AddsFront piece (Some before) None = ⊥
-AddsFront piece (Some before) (Some after) = (n : ℕ) × (n ≤ length piece) × (after ≡ before ++ take n piece)
+AddsFront piece (Some before) (Some after) = (n : ℕ) × (n ≤ length piece)
+    × (after ≡ before ++ take n piece)

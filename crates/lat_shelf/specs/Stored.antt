@@ -15,4 +15,5 @@ files_of stored = from_entries (map entry stored)
 -- what is left of the open file after so many bytes
 abbrev pub left_of : List Stored → Option ℕ → ℕ → List ℕ
 left_of stored None at = []
-left_of stored (Some place) at = unwrap_or (option_map (λ file. drop at file.bytes.items) (slice_get stored place)) []
+left_of stored (Some place) at = unwrap_or (option_map
+    (λ file. drop at file.bytes.items) (slice_get stored place)) []

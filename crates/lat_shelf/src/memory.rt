@@ -62,7 +62,8 @@ impl MemoryShelf {
     /// Sets a file. Afterwards nothing is open. The only error is want of memory; the shelf is then as
     /// before.
     pub fn add(&mut self, name: &str, bytes: &[u8]) -> Result<(), AllocError>
-        ensures ok { OnOk result (self.new ≡ record self.old { files = insert self.old.files name.now bytes.now; left = [] }) }
+        ensures ok { OnOk result (self.new
+            ≡ record self.old { files = insert self.old.files name.now bytes.now; left = [] }) }
         ensures err { OnErr result (self.new ≡ self.old) }
     {
         let name = String::from_str(self.alloc, name)?;
@@ -75,9 +76,15 @@ impl MemoryShelf {
 
     /// Lets the `n`-th call of that kind fail, counted from 0 since the shelf was made.
     pub fn fail(&mut self, call: Kind, n: u64) -> Result<(), AllocError>
-        ensures ok { OnOk result (calls_of self.new call ≡ record (calls_of self.old call) { failing = (calls_of self.old call).failing ++ n ∷ [] }) }
-        ensures others { (other : Kind) → other ≢ call → calls_of self.new other ≡ calls_of self.old other }
-        ensures files { (self.new.files ≡ self.old.files) × (self.new.left ≡ self.old.left) × (self.new.faults ≡ self.old.faults) }
+        ensures ok { OnOk result (calls_of self.new call
+            ≡ record (calls_of self.old call) {
+              failing = (calls_of self.old call).failing ++ n
+                  ∷ [];
+            }) }
+        ensures others { (other : Kind) → other ≢ call →
+            calls_of self.new other ≡ calls_of self.old other }
+        ensures files { (self.new.files ≡ self.old.files) × (self.new.left ≡ self.old.left) ×
+            (self.new.faults ≡ self.old.faults) }
         ensures err { OnErr result (self.new ≡ self.old) }
     {
         match call {
@@ -110,7 +117,8 @@ impl Shelf for MemoryShelf {
     fn open(&mut self, name: &str) -> Result<(), Failed>
         ensures opens { OnOk result (Opens (Some self.old.files) name.now (Some self.new.left)) }
         ensures closed { OnErr result (NoneOpen (Some self.new.left)) }
-        ensures failed { OnErr result (Rose self.old.faults self.new.faults ⊎ IsMissing (Some self.old.files) name.now) }
+        ensures failed { OnErr result (Rose self.old.faults self.new.faults ⊎
+            IsMissing (Some self.old.files) name.now) }
         ensures files { Some self.new.files ≡ Some self.old.files }
         ensures faults { self.old.faults ≤ self.new.faults }
         ensures exact { OpensMemory self.old self.new name.now (not (is_ok result)) }
@@ -132,7 +140,8 @@ impl Shelf for MemoryShelf {
 
     fn take(&mut self, buf: &mut [u8]) -> Result<usize, Failed>
         ensures within { IfOk result (λ n. n ≤ length buf.new) }
-        ensures takes { IfOk result (λ n. TakesKnown (Some self.old.left) (Some self.new.left) buf.new n) }
+        ensures takes { IfOk result
+            (λ n. TakesKnown (Some self.old.left) (Some self.new.left) buf.new n) }
         ensures closed { OnErr result (NoneOpen (Some self.new.left)) }
         ensures failed { OnErr result (Rose self.old.faults self.new.faults) }
         ensures files { Some self.new.files ≡ Some self.old.files }
@@ -152,9 +161,11 @@ impl Shelf for MemoryShelf {
     }
 
     fn put(&mut self, name: &str, bytes: &[u8]) -> Result<(), OutFail>
-        ensures ok { OnOk result (Some self.new.files ≡ option_map (λ fs. insert fs name.now bytes.now) (Some self.old.files)) }
+        ensures ok { OnOk result (Some self.new.files
+            ≡ option_map (λ fs. insert fs name.now bytes.now) (Some self.old.files)) }
         ensures failed { IsErrOf result OutFail.Failed → Rose self.old.faults self.new.faults }
-        ensures others { IsErrOf result OutFail.Failed → SameBut name.now (Some self.old.files) (Some self.new.files) }
+        ensures others { IsErrOf result OutFail.Failed →
+            SameBut name.now (Some self.old.files) (Some self.new.files) }
         ensures memory { IsErrOf result OutFail.Memory → Some self.new.files ≡ Some self.old.files }
         ensures closed { NoneOpen (Some self.new.left) }
         ensures faults { self.old.faults ≤ self.new.faults }

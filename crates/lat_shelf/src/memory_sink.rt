@@ -38,7 +38,13 @@ impl MemorySink {
 
     /// Lets the `n`-th call of `give` fail, counted from 0 since the sink was made.
     pub fn fail(&mut self, n: u64) -> Result<(), AllocError>
-        ensures ok { OnOk result (self.new ≡ record self.old { gives = record self.old.gives { failing = self.old.gives.failing ++ n ∷ [] } }) }
+        ensures ok { OnOk result (self.new
+            ≡ record self.old {
+              gives = record self.old.gives {
+                failing = self.old.gives.failing
+                    ++ n ∷ [];
+              };
+            }) }
         ensures err { OnErr result (self.new ≡ self.old) }
     {
         self.gives.fail(n)
@@ -58,9 +64,11 @@ impl Sink for MemorySink {
     ghost faults = { λ s. s.faults };
 
     fn give(&mut self, piece: &[u8]) -> Result<(), OutFail>
-        ensures ok { OnOk result (Some self.new.bytes ≡ option_map (λ bytes. bytes ++ piece.now) (Some self.old.bytes)) }
+        ensures ok { OnOk result (Some self.new.bytes
+            ≡ option_map (λ bytes. bytes ++ piece.now) (Some self.old.bytes)) }
         ensures failed { IsErrOf result OutFail.Failed → Rose self.old.faults self.new.faults }
-        ensures front { IsErrOf result OutFail.Failed → AddsFront piece.now (Some self.old.bytes) (Some self.new.bytes) }
+        ensures front { IsErrOf result OutFail.Failed →
+            AddsFront piece.now (Some self.old.bytes) (Some self.new.bytes) }
         ensures memory { IsErrOf result OutFail.Memory → Some self.new.bytes ≡ Some self.old.bytes }
         ensures faults { self.old.faults ≤ self.new.faults }
         ensures exact { GivesMemory self.old self.new (has_failed result) }

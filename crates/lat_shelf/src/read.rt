@@ -36,7 +36,8 @@ pub fn read_whole<H: Shelf>(
     ensures fault { IsErrOf result ReadFail.Fault
         → Rose (H.faults shelf.old) (H.faults shelf.new) ⊎ IsMissing (H.files shelf.old) name.now }
     ensures number { (n : ℕ) → IsErrOf result (ReadFail.TooLong n) → n ≡ limit + 1 }
-    ensures longer { (n : ℕ) → IsErrOf result (ReadFail.TooLong n) → IsLonger (H.files shelf.old) name.now limit }
+    ensures longer { (n : ℕ) → IsErrOf result (ReadFail.TooLong n) →
+        IsLonger (H.files shelf.old) name.now limit }
 
     ensures files { H.files shelf.new ≡ H.files shelf.old }
     ensures faults { H.faults shelf.old ≤ H.faults shelf.new }

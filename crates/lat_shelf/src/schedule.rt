@@ -31,7 +31,8 @@ impl Calls {
 
     /// Lets call number `n` fail, counted from 0.
     pub fn fail(&mut self, n: u64) -> Result<(), AllocError>
-        ensures ok { OnOk result (self.new ≡ record self.old { failing = self.old.failing ++ n ∷ [] }) }
+        ensures ok { OnOk result (self.new
+            ≡ record self.old { failing = self.old.failing ++ n ∷ [] }) }
         ensures err { OnErr result (self.new ≡ self.old) }
     {
         Ok(self.failing.push(n)?)

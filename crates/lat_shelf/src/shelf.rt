@@ -23,7 +23,8 @@ pub trait Shelf {
     fn open(&mut self, name: &str) -> Result<(), Failed>
         ensures opens { OnOk result (Opens (files self.old) name.now (left self.new)) }
         ensures closed { OnErr result (NoneOpen (left self.new)) }
-        ensures failed { OnErr result (Rose (faults self.old) (faults self.new) ⊎ IsMissing (files self.old) name.now) }
+        ensures failed { OnErr result (Rose (faults self.old) (faults self.new) ⊎
+            IsMissing (files self.old) name.now) }
         ensures files { files self.new ≡ files self.old }
         ensures faults { faults self.old ≤ faults self.new };
 
@@ -40,9 +41,11 @@ pub trait Shelf {
     /// Puts a file whole. Afterwards nothing is open. `Failed` comes only where a fault rose, and
     /// then nothing is known of the file of that name; after `Memory` the files are as before.
     fn put(&mut self, name: &str, bytes: &[u8]) -> Result<(), OutFail>
-        ensures ok { OnOk result (files self.new ≡ option_map (λ fs. insert fs name.now bytes.now) (files self.old)) }
+        ensures ok { OnOk result (files self.new
+            ≡ option_map (λ fs. insert fs name.now bytes.now) (files self.old)) }
         ensures failed { IsErrOf result OutFail.Failed → Rose (faults self.old) (faults self.new) }
-        ensures others { IsErrOf result OutFail.Failed → SameBut name.now (files self.old) (files self.new) }
+        ensures others { IsErrOf result OutFail.Failed →
+            SameBut name.now (files self.old) (files self.new) }
         ensures memory { IsErrOf result OutFail.Memory → files self.new ≡ files self.old }
         ensures closed { NoneOpen (left self.new) }
         ensures faults { faults self.old ≤ faults self.new };

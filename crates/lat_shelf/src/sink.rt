@@ -18,9 +18,11 @@ pub trait Sink {
     /// Adds a piece at the end. `Failed` comes only where a fault rose, and then a front of the
     /// piece was added; after `Memory` nothing was.
     fn give(&mut self, piece: &[u8]) -> Result<(), OutFail>
-        ensures ok { OnOk result (given self.new ≡ option_map (λ bytes. bytes ++ piece.now) (given self.old)) }
+        ensures ok { OnOk result (given self.new
+            ≡ option_map (λ bytes. bytes ++ piece.now) (given self.old)) }
         ensures failed { IsErrOf result OutFail.Failed → Rose (faults self.old) (faults self.new) }
-        ensures front { IsErrOf result OutFail.Failed → AddsFront piece.now (given self.old) (given self.new) }
+        ensures front { IsErrOf result OutFail.Failed →
+            AddsFront piece.now (given self.old) (given self.new) }
         ensures memory { IsErrOf result OutFail.Memory → given self.new ≡ given self.old }
         ensures faults { faults self.old ≤ faults self.new };
 }

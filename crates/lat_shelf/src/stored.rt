@@ -13,7 +13,9 @@ pub struct Stored {
 pub fn place_of(stored: &[Stored], name: &str) -> Option<usize>
     ensures missing { IfNone result (get (files_of stored.now) name.now ≡ None) }
     ensures within { IfSome result (λ place. place < length stored.now) }
-    ensures found { IfSome result (λ place. get (files_of stored.now) name.now ≡ option_map (λ file. file.bytes.items) (slice_get stored.now place)) }
+    ensures found { IfSome result
+        (λ place. get (files_of stored.now) name.now
+        ≡ option_map (λ file. file.bytes.items) (slice_get stored.now place)) }
 {
     for (i, file) in stored.iter().enumerate() {
         if file.name.as_str() == name {

@@ -31,7 +31,8 @@ abbrev pub style_in : List ℕ → Result DefinitionValue DefFault → Result As
 style_in id (Err fault) = Err (r.Definition fault)
 style_in id (Ok definition) = style_by_place definition (style_place definition id)
 
--- the style of that id, or the first refusal: the definition's first fault, then that no style has the id
+-- the style of that id, or the first refusal: the definition's first fault, then that no style has
+-- the id
 abbrev pub asked_style : List ℕ → List ℕ → Result AskedStyle Refusal
 asked_style id bytes = style_in id (definition_of bytes)
 

@@ -57,7 +57,8 @@ EndsBy job (Err refusal) status before after =
 EndsBy job (Ok inputs) status before after = (texts : Texts) × job.Is inputs status texts
     × Wrote texts.puts texts.summary before after
 
--- where the files are told and no fault rose, the call ends by what they say, unless memory was wanting
+-- where the files are told and no fault rose, the call ends by what they say, unless memory was
+-- wanting
 abbrev pub Completes : Job → Status → Outside → Outside → Type 0
 Completes job status before after = (files : Files) → before.files ≡ Some files
     → ¬ Rose before.shelf_faults after.shelf_faults → ¬ Rose before.sink_faults after.sink_faults

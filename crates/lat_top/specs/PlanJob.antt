@@ -13,7 +13,8 @@ use Rattle.lat_top.specs.Summary.{least_summary, none_summary}
 use Rattle.lat_top.specs.Written.{Texts}
 use Rattle.lat_top.specs.PlanFiles.{deck_files}
 
--- the definition is read; its first fault, that it lacks the style and that the style is too wide are
+-- the definition is read; its first fault, that it lacks the style and that the style is too wide
+-- are
 -- refused in this order
 abbrev pub plan_reads : Plan → Script AskedStyle
 plan_reads plan = do

@@ -70,14 +70,16 @@ pub record Reads {A : Type 0} (script : Script A) (before after : Moment)
   pub faults : before.faults ≤ after.faults
 
 -- what a script comes to once a file was looked for
-abbrev pub taken : {A : Type 0} → ℕ → (List ℕ → Result A Refusal) → Option (List ℕ) → Result A Refusal
+abbrev pub taken : {A : Type 0} → ℕ → (List ℕ → Result A Refusal) → Option (List ℕ)
+    → Result A Refusal
 taken limit next None = Err r.ReadFault
 taken limit next (Some bytes) =
     if nat_le (length bytes) limit then next bytes else Err (r.TooLong (limit + 1))
 
 -- what a script comes to where the files are told and nothing fails
 abbrev pub outcome : {A : Type 0} → Script A → Files → Result A Refusal
-outcome (Read name limit next) files = taken limit (λ bytes. outcome (next bytes) files) (get files name)
+outcome (Read name limit next) files = taken limit
+    (λ bytes. outcome (next bytes) files) (get files name)
 outcome (Refuse refusal) files = Err refusal
 outcome (Give a) files = Ok a
 

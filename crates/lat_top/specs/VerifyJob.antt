@@ -1,9 +1,11 @@
 -- The job of `verify`: what an attack on the deck of a file comes to.
-use Rattle.std.specs.Prelude.{◌≡◌, ℕ, List, [], length, None, Result, Ok, Err}
+use Rattle.std.specs.Prelude.{◌≡◌, ◌≤◌, ◌*◌, ℕ, List, [], length, None, Result, Ok, Err}
 use Rattle.lat_ballots.specs.Deck.{Ballots}
 use Rattle.adversary.specs.declared.attacking.Attacked.{Attacked}
 use Rattle.adversary.specs.declared.attacking.Attacked.TheVariants as attacked
-use Rattle.adversary.specs.Attack.{IsAttack}
+use Rattle.adversary.specs.Attack.{IsAttack, IsEnded}
+use Rattle.evade_space.specs.Trees.{factorial}
+use Rattle.lat_base.specs.Shape.{target_count}
 use Rattle.deck_text.specs.declared.fault.CsvFault.{CsvFault}
 use Rattle.deck_text.specs.Rows.{file_records}
 use Rattle.deck_text.specs.DeckRead.{deck_read}
@@ -54,6 +56,8 @@ pub record IsVerify (verify : Verify) (inputs : Attackable) (status : Status) (t
     Type 0 where
   pub attack : Attacked
   pub shows : IsAttack inputs.style.shape inputs.deck.ballots verify.budget attack
+  -- an ample budget isn't spent
+  pub ends : 3 * factorial (target_count inputs.style.shape) ≤ verify.budget → IsEnded attack
   pub status_is : status ≡ attack_status (length inputs.deck.ballots) attack
   pub puts : texts.puts ≡ []
   pub summary : let style = inputs.style in texts.summary

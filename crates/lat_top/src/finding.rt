@@ -27,7 +27,8 @@ fn ruled_style(alloc: Global, definition: &Definition, i: u32) -> Result<AskedSt
     })
 }
 
-// The style of that id, from the bytes of a definition, or the first refusal: the definition's first
+// The style of that id, from the bytes of a definition, or the first refusal: the definition's
+// first
 // fault, then that no style has the id.
 fn find_style(alloc: Global, bytes: &[u8], id: &str) -> Result<AskedStyle, Refusal>
     ensures style { Judged result (asked_style id.now bytes.now) }

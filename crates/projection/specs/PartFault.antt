@@ -4,7 +4,8 @@ use Rattle.lat_base.specs.declared.contest.Contest.{Contest}
 use Rattle.projection.specs.declared.part_fault.PartFault.{PartFault}
 use Rattle.projection.specs.declared.part_fault.PartFault.TheVariants.{Empty, OutOfRange, NotRising}
 
--- the first bad place, from number i on, of a style of n contests: a contest that isn't in the style, or is below the least that may follow
+-- the first bad place, from number i on, of a style of n contests: a contest that isn't in the
+-- style, or is below the least that may follow
 abbrev pub place_fault : ℕ → ℕ → ℕ → List ℕ → Option PartFault
 place_fault n i least [] = None
 place_fault n i least (c ∷ chosen) =

@@ -57,7 +57,8 @@ fn part_of(alloc: Global, shape: &Shape, contests: &[u16]) -> Result<Shape, Allo
 pub fn part(alloc: Global, shape: &Shape, contests: &[u16]) -> Result<Shape, PartFault>
     ensures ok { IfOk result (λ part_shape. part_shape ≡ part shape.now contests.now) }
     ensures sound { OnOk result (IsPart shape.now contests.now) }
-    ensures fault { (f : PartFault) → f ≢ PartFault.Memory → (result ≡ Err f) ↔ (part_fault shape.now contests.now ≡ Some f) }
+    ensures fault { (f : PartFault) → f ≢ PartFault.Memory → (result ≡ Err f) ↔
+        (part_fault shape.now contests.now ≡ Some f) }
 {
     if contests.is_empty() {
         return Err(PartFault::Empty);

@@ -23,7 +23,8 @@ fn push_targets(targets: &mut Vec<u16>, shape: &Shape, c: u16) -> Result<(), All
 // The targets of those contests of the style, in order.
 fn list_targets(alloc: Global, shape: &Shape, contests: &[u16]) -> Result<Vec<u16>, AllocError>
     requires { IsPart shape.now contests.now }
-    ensures { IfOk result (λ targets. targets.items ≡ flat_map (targets_of shape.now) contests.now) }
+    ensures { IfOk result
+        (λ targets. targets.items ≡ flat_map (targets_of shape.now) contests.now) }
 {
     let mut targets = Vec::new(alloc);
     for c in contests {

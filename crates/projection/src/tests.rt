@@ -3,7 +3,8 @@ use lat_ballots::Deck;
 use lat_base::{Contest, Shape};
 use std::test::Fail;
 
-// Two contests of two targets and one vote, a1, a2, b1, b2: lists of contests and their first faults.
+// Two contests of two targets and one vote, a1, a2, b1, b2: lists of contests and their first
+// faults.
 #[test]
 fn lists_that_are_no_part(rt: HostRuntime) -> Result<(), Fail> {
     let alloc = rt.alloc();

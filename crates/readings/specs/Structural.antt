@@ -11,13 +11,15 @@ use Rattle.readings.specs.Turn.{made}
 abbrev pub targets_of : List Contest → ℕ → List ℕ
 targets_of contests c = range_with_len (first_target contests c) (contest_at contests c).targets
 
--- f takes the targets of each contest c to those of contest turn c, which has as many and the same limit
+-- f takes the targets of each contest c to those of contest turn c, which has as many and the same
+-- limit
 pub record IsStructural (contests : List Contest) (f turn : ℕ → ℕ) : Type 0 where
   pub within : (c : ℕ) → c < length contests → turn c < length contests
   pub shape : (c : ℕ) → c < length contests → contest_at contests (turn c) ≡ contest_at contests c
   pub targets : (c : ℕ) → c < length contests
       → IsPermutation (targets_of contests (turn c)) (map f (targets_of contests c))
-  pub contest : (u : ℕ) → u < target_count contests → contest_of contests (f u) ≡ turn (contest_of contests u)
+  pub contest : (u : ℕ) → u < target_count contests
+      → contest_of contests (f u) ≡ turn (contest_of contests u)
 
 -- the contests c and d exchanged whole, target by target
 abbrev pub exchange_contests : List Contest → ℕ → ℕ → ℕ → ℕ

@@ -1,8 +1,9 @@
 use crate::printing::{print_bytes, push_hex};
-use anyhow::{Error, Result};
+use anyhow::Result;
 use lat_shelf::{FileShelf, Kind, MemoryShelf, MemorySink, read_whole};
 use lat_top::run;
 use std::alloc::{AllocError, Global};
+use std::fs::Files;
 
 // How many bytes a file may have that lies beside the program.
 const DATA_LIMIT: u32 = 67_108_864;
@@ -73,13 +74,9 @@ impl Bench {
     // Adds the bytes of a file that lies beside the program.
     fn load<R: Files>(&mut self, rt: &R, name: &str) -> Result<()> {
         let mut files = FileShelf::new(rt);
-        match read_whole(self.alloc, &mut files, name, DATA_LIMIT) {
-            Ok(bytes) => {
-                self.file.extend_from_slice(&bytes)?;
-                Ok(())
-            }
-            Err(_) => Err(Error::msg(self.alloc, "no such file beside the program")?),
-        }
+        let bytes = read_whole(self.alloc, &mut files, name, DATA_LIMIT)?;
+        self.file.extend_from_slice(&bytes)?;
+        Ok(())
     }
 
     // Lets call number n of a kind fail.

@@ -1,4 +1,5 @@
--- Reorderings of a deck: of its ballots, of the targets within a contest, and of contests of the same limit and number of targets.
+-- Reorderings of a deck: of its ballots, of the targets within a contest, and of contests of the
+-- same limit and number of targets.
 use Rattle.std.specs.Prelude.{ℕ, Bool, List}
 use Rattle.std.specs.List.Sorted.{IsPermutation}
 use Rattle.lat_base.specs.declared.contest.Contest.{Contest}
@@ -6,7 +7,8 @@ use Rattle.lat_base.specs.Shape.{target_count}
 use Rattle.readings.specs.Turn.{IsTurn}
 use Rattle.readings.specs.Structural.{IsStructural, relabelled}
 
--- f goes through the targets once each and takes contests to contests of the same limit and number of targets, and so back
+-- f goes through the targets once each and takes contests to contests of the same limit and number
+-- of targets, and so back
 pub record IsReordering (contests : List Contest) (f : ℕ → ℕ) : Type 0 where
   pub back : ℕ → ℕ
   pub turn : ℕ → ℕ

@@ -46,7 +46,9 @@ pub fn canonical(alloc: Global, shape: &Shape, deck: Deck) -> Result<Deck, Alloc
     requires { deck.targets ≡ target_count shape.now }
     ensures canonical { IfOk result (λ copy. IsCanonical shape.now copy.ballots) }
     ensures reordered { IfOk result (λ copy. IsReordered shape.now deck.ballots copy.ballots) }
-    ensures good { IfOk result (λ copy. (rules : RuleSet) → IsGood shape.now rules copy.ballots ↔ IsGood shape.now rules deck.ballots) }
+    ensures good { IfOk result
+        (λ copy. (rules : RuleSet) → IsGood shape.now rules copy.ballots ↔
+        IsGood shape.now rules deck.ballots) }
     ensures obeys { IfOk result (λ copy. (rules : RuleSet) →
         Obeys shape.now rules deck.ballots → Obeys shape.now rules copy.ballots) }
     ensures size { IfOk result (λ copy. length copy.ballots ≡ length deck.ballots) }

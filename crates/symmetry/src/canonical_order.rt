@@ -18,7 +18,8 @@ use lat_tabulate::total;
 fn is_smaller(deck: &Deck, j: u16, i: u16) -> bool
     requires first { j < length deck.now.ballots }
     requires second { i < length deck.now.ballots }
-    ensures { IsTrue result ↔ (slice_cmp bool_cmp (ballot_at deck.now j) (ballot_at deck.now i) ≡ Less) }
+    ensures { IsTrue result ↔
+        (slice_cmp bool_cmp (ballot_at deck.now j) (ballot_at deck.now i) ≡ Less) }
 {
     for t in 0..deck.targets() {
         let other = deck.is_marked(i, t);
@@ -45,7 +46,9 @@ fn are_falling(deck: &Deck) -> bool
 fn falls(shape: &Shape, deck: &Deck, t: u16) -> bool
     requires targets { deck.now.targets ≡ target_count shape.now }
     requires next { t + 1 < target_count shape.now }
-    ensures { IsTrue result ↔ (contest_of shape.now t ≡ contest_of shape.now (t + 1)) × (own_total shape.now deck.now.ballots (t + 1) < own_total shape.now deck.now.ballots t) }
+    ensures { IsTrue result ↔
+        (contest_of shape.now t ≡ contest_of shape.now (t + 1)) ×
+        (own_total shape.now deck.now.ballots (t + 1) < own_total shape.now deck.now.ballots t) }
 {
     let _targets = shape.targets();
     shape.contest_of(t) == shape.contest_of(t + 1)
@@ -71,7 +74,8 @@ fn is_greater(shape: &Shape, deck: &Deck, c: u16, d: u16) -> bool
     requires first { c < length shape.now }
     requires second { d < length shape.now }
     requires alike { contest_at shape.now c ≡ contest_at shape.now d }
-    ensures { IsTrue result ↔ (compare_totals shape.now (own_total shape.now deck.now.ballots) c d ≡ Greater) }
+    ensures { IsTrue result ↔
+        (compare_totals shape.now (own_total shape.now deck.now.ballots) c d ≡ Greater) }
 {
     for i in 0..shape.contest(c).targets {
         let here = total(shape, deck, target_of(shape, c, i));
@@ -83,7 +87,8 @@ fn is_greater(shape: &Shape, deck: &Deck, c: u16, d: u16) -> bool
     false
 }
 
-// Whether contest c's totals aren't greater than those of any later contest of its limit and number of
+// Whether contest c's totals aren't greater than those of any later contest of its limit and
+// number of
 // targets.
 fn is_least(shape: &Shape, deck: &Deck, c: u16) -> bool
     requires targets { deck.now.targets ≡ target_count shape.now }

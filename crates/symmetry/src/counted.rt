@@ -19,7 +19,9 @@ pub struct Counted {
 #[tactic(auto, using(lemmas::proofs::Ranges::made_more))]
 pub fn count_targets(alloc: Global, shape: &Shape, deck: &Deck) -> Result<Vec<Counted>, AllocError>
     requires { deck.now.targets ≡ target_count shape.now }
-    ensures { IfOk result (λ list. list.items ≡ map (counted shape.now deck.now.ballots) (range_with_len 0 (target_count shape.now))) }
+    ensures { IfOk result
+        (λ list. list.items
+        ≡ map (counted shape.now deck.now.ballots) (range_with_len 0 (target_count shape.now))) }
 {
     let mut list = Vec::with_capacity(alloc, usize::from(shape.targets()))?;
     for target in 0..shape.targets() {

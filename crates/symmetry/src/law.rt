@@ -10,7 +10,8 @@ ghost use Rattle.symmetry.specs.Reordering.{IsReordered};
 
 /// A law: every good deck has a canonical good one of the same size. The call does nothing.
 pub fn good_has_canonical()
-    ensures { (contests : List Contest) (rules : RuleSet) (deck : List (List Bool)) → IsGood contests rules deck →
+    ensures { (contests : List Contest) (rules : RuleSet) (deck : List (List Bool)) →
+        IsGood contests rules deck →
         (copy : List (List Bool)) × IsCanonical contests copy × IsGood contests rules copy × (length copy ≡ length deck) }
 {}
 

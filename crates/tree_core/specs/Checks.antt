@@ -17,9 +17,11 @@ abbrev mutual
   pub KidsCheckWith : {S B R : Type 0} → Bool → Steps S B R → S → B → ℕ → Roses B R → Type 0
   KidsCheckWith open_holds steps s l k none = Unit {0}
   KidsCheckWith open_holds steps s l k (more t ts) =
-      ChecksWith open_holds steps (steps.kid s l k) t × KidsCheckWith open_holds steps s l (suc k) ts
+      ChecksWith open_holds steps (steps.kid s l k) t
+      × KidsCheckWith open_holds steps s l (suc k) ts
 
--- a tree checks at a state: each Close closes, each Fork is allowed and has all its kids, and no leaf is open
+-- a tree checks at a state: each Close closes, each Fork is allowed and has all its kids, and no
+-- leaf is open
 abbrev pub Checks : {S B R : Type 0} → Steps S B R → S → Rose B R → Type 0
 Checks steps s t = ChecksWith false steps s t
 

@@ -16,7 +16,8 @@ behind zero ts = ts
 behind (suc n) none = none
 behind (suc n) (more t ts) = behind n ts
 
--- the trees that a list of nodes lists, read from its end: a Fork takes its kids from the trees behind it
+-- the trees that a list of nodes lists, read from its end: a Fork takes its kids from the trees
+-- behind it
 abbrev pub trees_of : {B R : Type 0} → List (Node B R) → Roses B R
 trees_of [] = none
 trees_of (Close r ∷ ns) = more (Closed r) (trees_of ns)

@@ -18,7 +18,8 @@ pub record IsKid {S B R : Type 0} (steps : Steps S B R) (own : S → Type 0)
   pub is_kid : kid ≡ steps.kid s l k
 
 -- a state is the root or lies below it: it is a kid of a state that does
-pub data IsBelow {S B R : Type 0} (steps : Steps S B R) (own : S → Type 0) (root : S) : S → Type 0 where
+pub data IsBelow {S B R : Type 0} (steps : Steps S B R) (own : S → Type 0) (root : S) : S
+    → Type 0 where
   is_root : IsBelow steps own root root
   is_under : {s kid : S} {l : B} {k : ℕ} → IsBelow steps own root s → IsKid steps own s l k kid
       → IsBelow steps own root kid

@@ -1,4 +1,5 @@
--- How a walk stands: the state at hand, the Forks on the way to it, and the states that are still to come.
+-- How a walk stands: the state at hand, the Forks on the way to it, and the states that are still
+-- to come.
 use Rattle.std.specs.Prelude.{◌≡◌, ℕ, suc, ◌+◌, Bool, true, false, Some, List, [], ◌∷◌, ◌++◌, slice_get, map}
 use Rattle.tree_core.specs.declared.node.Node.{Node}
 use Rattle.tree_core.specs.declared.node.Node.TheVariants.{Fork}
@@ -10,9 +11,11 @@ use Rattle.tree_core.specs.Places.{kids_from, ahead}
 abbrev pub places_of : List Entry → List ℕ
 places_of way = map (λ entry. entry.node) way
 
--- the state `here` is a kid of `s` under the Fork that the entry names; `left` more kids of it are to
+-- the state `here` is a kid of `s` under the Fork that the entry names; `left` more kids of it are
+-- to
 -- come, and then `rest`
-pub record Entered {S B R : Type 0} (steps : Steps S B R) (own : S → Type 0) (nodes : List (Node B R))
+pub record Entered {S B R : Type 0} (steps : Steps S B R) (own : S
+    → Type 0) (nodes : List (Node B R))
     (entry : Entry) (s here : S) (to_come rest : List S) : Type 0 where
   pub label : B
   pub kids : ℕ
@@ -26,7 +29,8 @@ pub record Entered {S B R : Type 0} (steps : Steps S B R) (own : S → Type 0) (
   pub is_kid : here ≡ steps.kid s label kid
   pub is_rest : to_come ≡ kids_from steps s label (suc kid) left ++ rest
 
--- the way leads from the root to the state at hand, the innermost Fork first, and these states are to
+-- the way leads from the root to the state at hand, the innermost Fork first, and these states are
+-- to
 -- come after it
 abbrev pub Stands : {S B R : Type 0} → Steps S B R → (S → Type 0) → List (Node B R) → S
     → List Entry → S → List S → Type 0
@@ -36,7 +40,8 @@ Stands {S} steps own nodes root (entry ∷ way) here to_come =
     × Stands steps own nodes root way s rest
 
 -- the way leads from some root to the state at hand
-abbrev pub IsOnWay : {S B R : Type 0} → Steps S B R → (S → Type 0) → List (Node B R) → List Entry → S → Type 0
+abbrev pub IsOnWay : {S B R : Type 0} → Steps S B R → (S → Type 0) → List (Node B R) → List Entry
+    → S → Type 0
 IsOnWay {S} steps own nodes way here =
     (root : S) × (to_come : List S) × Stands steps own nodes root way here to_come
 

@@ -57,7 +57,8 @@ pub fn next_place<S: Space>(
         Lands steps own nodes.now root (reverse way.new.items) state.new result to_come }
 
     // The places on the way are the first ones of those before.
-    ensures places { places_of way.new.items ≡ take (length way.new.items) (places_of way.old.items) }
+    ensures places { places_of way.new.items
+        ≡ take (length way.new.items) (places_of way.old.items) }
 {
     while let Some(entry) = go_up(space, state, way) {
         let Node::Fork(label, kids) = &nodes[entry.node] else {

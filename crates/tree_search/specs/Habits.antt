@@ -4,7 +4,8 @@ use Rattle.tree_core.specs.Steps.{Steps}
 use Rattle.tree_search.specs.declared.pick.Pick.{Pick}
 use Rattle.tree_search.specs.declared.pick.Pick.TheVariants.{Close, Fork, Found, Halt}
 
--- the rule by which a pick changes the memory, and three relations: of the memory before a pick, the
+-- the rule by which a pick changes the memory, and three relations: of the memory before a pick,
+-- the
 -- state and the pick; of a complete state and a proof of it; of a state and what a Halt says there
 pub record Habits (S B R P W : Type 0) : Type 1 where
   pub rule : List R → Pick B R P W → List R
@@ -13,10 +14,12 @@ pub record Habits (S B R P W : Type 0) : Type 1 where
   pub excuses : S → W → Type 0
 
 -- the state is complete, and its value is a solution of it
-abbrev pub IsSolved : {S : Type 0} → (S → Type 0) → (S → List ℕ → Type 0) → (S → List ℕ) → S → Type 0
+abbrev pub IsSolved : {S : Type 0} → (S → Type 0) → (S → List ℕ → Type 0) → (S → List ℕ) → S
+    → Type 0
 IsSolved complete solution value s = complete s × solution s (value s)
 
--- a pick fits its state: the reason closes it, the label is allowed, it is solved and proved, or it is
+-- a pick fits its state: the reason closes it, the label is allowed, it is solved and proved, or
+-- it is
 -- excused
 abbrev pub Fits : {S B R P W : Type 0} → Steps S B R → (S → Type 0) → Habits S B R P W → S
     → Pick B R P W → Type 0

@@ -8,7 +8,8 @@ use Rattle.tree_search.specs.declared.pick.Pick.{Pick}
 use Rattle.tree_search.specs.declared.pick.Pick.TheVariants as picks
 use Rattle.tree_search.specs.Habits.{Habits}
 
--- the memory after a node: a Close or Fork node counts as its pick, and an Open one leaves the memory
+-- the memory after a node: a Close or Fork node counts as its pick, and an Open one leaves the
+-- memory
 -- as it is
 abbrev pub after_node : {B R P W : Type 0} → (List R → Pick B R P W → List R)
     → List R → Node B R → List R
@@ -22,7 +23,8 @@ abbrev pub remembered : {B R P W : Type 0} → (List R → Pick B R P W → List
 remembered rule m [] = m
 remembered rule m (n ∷ ns) = remembered rule (after_node rule m n) ns
 
--- the relation holds of the memory after the nodes before, of the state and of the pick that the node is
+-- the relation holds of the memory after the nodes before, of the state and of the pick that the
+-- node is
 abbrev pub IsRelated : {S B R P W : Type 0} → Habits S B R P W → List R → List (Node B R) → S
     → Node B R → Type 0
 IsRelated habits m before s (Close r) = habits.relation (remembered habits.rule m before) s (picks.Close r)

@@ -10,7 +10,8 @@ use Rattle.tree_search.specs.declared.pick.Pick.TheVariants.{Found, Halt}
 use Rattle.tree_search.specs.Habits.{Habits}
 use Rattle.tree_search.specs.Memory.{remembered}
 
--- an open tree of n nodes: the nodes list exactly one tree, it checks but for its open leaves, it has n
+-- an open tree of n nodes: the nodes list exactly one tree, it checks but for its open leaves, it
+-- has n
 -- Close and Fork nodes, and at least one Open
 pub record IsOpenTree {S B R : Type 0} (steps : Steps S B R) (root : S) (n : ℕ)
     (nodes : List (Node B R)) : Type 0 where

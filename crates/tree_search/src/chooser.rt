@@ -29,7 +29,8 @@ pub trait Chooser<S: Space> {
     ) -> Result<Pick<S::Label, S::Reason, Self::Proof, Self::Why>, AllocError>
         requires { S.is_own space.now state.now }
 
-        // A Close's reason closes the state, a Fork's label is allowed there, Found comes only where
+        // A Close's reason closes the state, a Fork's label is allowed there, Found comes only
+        // where
         // the state is complete and its value a solution, with a proof of it, and Halt says what
         // the chooser's relation allows at the state.
         ensures fits { let s = space.now in

@@ -40,7 +40,8 @@ pub fn search<S: Space, C: Chooser<S>>(
         (state.new ≡ state.old) }
 
     // A closed tree leaves the state no solution.
-    ensures empty { (tree : List (Node S.Label S.Reason)) → result ≡ Result.Ok (Outcome.Closed tree) →
+    ensures empty { (tree : List (Node S.Label S.Reason)) →
+        result ≡ Result.Ok (Outcome.Closed tree) →
         (v : List ℕ) → S.is_solution space.now state.old v → ⊥ }
 
     ensures spent { let steps = S.steps space.now in

@@ -11,11 +11,11 @@ pub loop-votes-preserved : goal.loop-votes-preserved
 loop-votes-preserved c =
     let p = c.args.state.now in
     let can = most_votes p.contests c.args.c in
-    let above : c.count_above.result ≡ count_above c.loop-votes.votes (map can p.marks) = c.count_above.ensures.value ∙ sym (count_map can (λ (n : ℕ). nat_lt c.loop-votes.votes n) p.marks) in
+    let above : c.count_above.result ≡ count_above c.loop-votes.votes (map can p.marks) = c.count_above.ensures ∙ sym (count_map can (λ (n : ℕ). nat_lt c.loop-votes.votes n) p.marks) in
     let one : c.from-sum.result ≡ min c.most_voting-most.result (count_above c.loop-votes.votes (map can p.marks)) = c.from-sum.ensures ∙ (c.min.ensures ∙ ap (min c.most_voting-most.result) above) in
     record {
       sum = omega (arith, one, c.loop-votes.invariant.sum, level_more c.loop-votes.votes c.most_voting-most.result (map can p.marks));
-      small = omega (arith, c.from-sum.ensures, c.min.ensures, c.count_above.ensures.few, c.loop-votes.invariant.small);
+      small = omega (arith, c.from-sum.ensures, c.min.ensures, c.most_voting-most.ensures.few, c.loop-votes.invariant.small);
     }
 
 pub returns : goal.returns

@@ -48,7 +48,7 @@ returns c =
     let end : c.loop-u.u ≤ c.first_of-u-end.result = c.loop-u.auto.u-end (omega (arith, first, last, mono)) in
     let inv = c.loop-u.invariant in
     let where_is : (u : ℕ) → (u < first_target c.args.space.now.contests c.args.c) ⊎ (first_target c.args.space.now.contests (c.args.c + 1) ≤ u) → (u < first_target c.args.space.now.contests c.args.c) ⊎ (c.loop-u.u ≤ u) =
-    λ u out. elim out [ | inl lt ↦ inl lt | inr ge ↦ inr (omega (arith, ge, last, end)) ] in
+    λ u out. elim out [ inl lt ↦ inl lt | inr ge ↦ inr (omega (arith, ge, last, end)) ] in
     record {
       marks = inv.marks;
       rest = inv.rest;

@@ -1,6 +1,7 @@
-use Rattle.std.proofs.Common.{◌+◌, arith, ◌∙◌}
+use Rattle.std.proofs.Common.{◌+◌, arith, ◌∙◌, ap, length}
 use Rattle.lat_base.specs.Shape.{target_count}
-use Rattle.lat_ballots.proofs.PlainDeck.{built_first, built_more, built_rows}
+use Rattle.lat_ballots.specs.Deck.{Ballots}
+use Rattle.lat_ballots.proofs.PlainDeck.{built_first, built_more, built_rows, plain_long}
 use Rattle.lat_ballots.proofs.deck.Deck.plain.Goals as goal
 
 -- src/plain.rt:44:9
@@ -23,9 +24,18 @@ of_rows-requires c =
     c.targets-targets.ensures.shape.few_targets c.targets-targets.ensures.count (omega (arith, c.targets-targets.ensures.count, c.loop-t-test.false, c.loop-t.auto.t-end)) c.loop-t.invariant c.blank.ensures
     c.blank-2.ensures.value c.in_ok-push_copies-3.ensures c.requires).0
 
-pub returns : goal.returns
-returns c =
+pub returns-clause-plain : goal.returns-clause-plain
+returns-clause-plain c =
     c.of_rows.ensures ∙
     (built_rows (target_count c.args.shape.now) c.targets-targets.result c.loop-t.t c.blank-2.result c.args.rules.now c.loop-t.rows.items c.push_copies-2.new.rows.items c.blank.result
     c.targets-targets.ensures.shape.few_targets c.targets-targets.ensures.count (omega (arith, c.targets-targets.ensures.count, c.loop-t-test.false, c.loop-t.auto.t-end)) c.loop-t.invariant c.blank.ensures
     c.blank-2.ensures.value c.in_ok-push_copies-3.ensures c.requires).1
+
+pub returns-clause-size : goal.returns-clause-size
+returns-clause-size c =
+    ap (λ (d : Ballots). length d.ballots)
+    (c.of_rows.ensures ∙
+    (built_rows (target_count c.args.shape.now) c.targets-targets.result c.loop-t.t c.blank-2.result c.args.rules.now c.loop-t.rows.items c.push_copies-2.new.rows.items c.blank.result
+    c.targets-targets.ensures.shape.few_targets c.targets-targets.ensures.count (omega (arith, c.targets-targets.ensures.count, c.loop-t-test.false, c.loop-t.auto.t-end)) c.loop-t.invariant c.blank.ensures
+    c.blank-2.ensures.value c.in_ok-push_copies-3.ensures c.requires).1)
+    ∙ plain_long (target_count c.args.shape.now) c.args.rules.now
