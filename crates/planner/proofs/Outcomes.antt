@@ -56,12 +56,15 @@ module _ (s : PartialDeck) where
   open_there budget attempt h =
       let ballots : attempt.deck.ballots ≡ shown s = ap (λ (d : Ballots). d.ballots) h.deck in
       let left = shown_left s h.is h.complete h.none in (
-        ((record {
-          targets = ap (λ (d : Ballots). d.targets) h.deck;
-          size = ap length ballots ∙ shown_size s h.is;
-          canonical = subst (IsCanonical s.contests) (sym ballots) left.1;
-          obeys = subst (Obeys s.contests s.rules) (sym ballots) left.0;
-        }), subst (λ (d : List (List Bool)). IsOpenAttack s.contests d budget attempt.tree) (sym ballots) h.tree),
+        (
+          (record {
+            targets = ap (λ (d : Ballots). d.targets) h.deck;
+            size = ap length ballots ∙ shown_size s h.is;
+            canonical = subst (IsCanonical s.contests) (sym ballots) left.1;
+            obeys = subst (Obeys s.contests s.rules) (sym ballots) left.0;
+          }),
+          subst (λ (d : List (List Bool)). IsOpenAttack s.contests d budget attempt.tree) (sym ballots) h.tree,
+        ),
         (h.gapless, subst (λ (d : List (List Bool)). NoCheap (decided_as s.contests s.rules s.ballots d)) (sym ballots) (still_none s h.is h.complete h.none)),
         h.reach,
       )

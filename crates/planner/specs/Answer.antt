@@ -21,8 +21,8 @@ use Rattle.planner.specs.Tried.{AreTried}
 abbrev pub most : List Contest → RuleSet → ℕ
 most contests rules = plain_size (target_count contests) rules
 
--- a good canonical deck of at most `max` ballots with its tree, and no deck of fewer is good, as the
--- lower part shows
+-- a good canonical deck of at most `max` ballots with its tree, and no deck of fewer is good, as
+-- the lower part shows
 pub record IsLeast (contests : List Contest) (rules : RuleSet) (max : ℕ) (proved : Proved)
     (lower : Option LowerPart) : Type 0 where
   pub is_proved : IsProved contests rules proved

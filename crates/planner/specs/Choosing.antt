@@ -61,7 +61,8 @@ NoneHolds p reasons = (i : ℕ) (r : Reason) → slice_get reasons i ≡ Some r 
 abbrev pub NoCheap : PartialDeck → Type 0
 NoCheap p = (r : Reason) → IsCheap r → refutes p r ≡ false
 
--- a partial deck is forked only where no reason but a misassignment holds, nor any that is remembered
+-- a partial deck is forked only where no reason but a misassignment holds, nor any that is
+-- remembered
 abbrev pub IsEager : List Reason → PartialDeck → Pick Label Reason Proved Attempt → Type 0
 IsEager kept p (Close reason) = Unit {0}
 IsEager kept p (Fork label) = NoCheap p × NoneHolds p kept

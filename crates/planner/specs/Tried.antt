@@ -11,8 +11,8 @@ use Rattle.symmetry.specs.Reordering.{IsReordered}
 use Rattle.tree_core.specs.declared.node.Node.{Node}
 use Rattle.tree_core.specs.Nodes.{IsGapless}
 
--- a canonical deck that arises from a deck by reordering, with the gapless open tree of an attack of
--- so many nodes
+-- a canonical deck that arises from a deck by reordering, with the gapless open tree of an attack
+-- of so many nodes
 pub record IsOpenCopy (contests : List Contest) (budget : ℕ) (deck copy : List (List Bool))
     (nodes : List (Node ℕ Skipped)) : Type 0 where
   pub canonical : IsCanonical contests copy
@@ -25,7 +25,7 @@ abbrev pub IsTriedDeck : List Contest → ℕ → List (List Bool) → Type 0
 IsTriedDeck contests budget deck =
     ¬ IsRobust contests deck
     ⊎ ((copy : List (List Bool)) × (nodes : List (Node ℕ Skipped))
-        × IsOpenCopy contests budget deck copy nodes)
+    × IsOpenCopy contests budget deck copy nodes)
 
 -- the pattern of k ballots of that number was tried, where there is one and it fits
 abbrev pub IsTriedPattern : List Contest → RuleSet → ℕ → ℕ → ℕ → Type 0

@@ -7,7 +7,8 @@ pub enum Answer {
     /// A good canonical deck of the fewest ballots with its tree, and the lower part of one ballot
     /// less, which is absent exactly where the deck is empty.
     Least(Proved, Option<Lower>),
-    /// No good deck has at most the greatest number of ballots, as the lower part of that size shows.
+    /// No good deck has at most the greatest number of ballots, as the lower part of that size
+    /// shows.
     NoneWithin(Lower),
     /// A budget was spent.
     Spent(Kept),

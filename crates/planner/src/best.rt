@@ -17,8 +17,8 @@ const NEAR: u16 = 40;
 /// The first pattern whose targets all have different totals.
 const APART: u32 = 24;
 
-// A good deck of more than `from` and at most `top` ballots, if the candidate of a size not far above
-// `from` is one.
+// A good deck of more than `from` and at most `top` ballots, if the candidate of a size not far
+// above `from` is one.
 fn find_near(
     alloc: Global,
     shape: &Shape,
@@ -40,8 +40,8 @@ fn find_near(
     Ok(None)
 }
 
-// The smallest good deck of more than `from` and at most `top` ballots among those of one pattern, if
-// one is found within the budget.
+// The smallest good deck of more than `from` and at most `top` ballots among those of one pattern,
+// if one is found within the budget.
 fn find_apart(
     alloc: Global,
     shape: &Shape,
@@ -84,8 +84,9 @@ fn find_between(
     Ok(found)
 }
 
-/// A good deck of more than `from` and at most `max` ballots with its tree: there is one wherever the
-/// plain deck has at most `max`, and it has at most as many as that. The only error is want of memory.
+/// A good deck of more than `from` and at most `max` ballots with its tree: there is one wherever
+/// the plain deck has at most `max`, and it has at most as many as that. The only error is want of
+/// memory.
 pub(crate) fn find_best(
     alloc: Global,
     shape: &Shape,

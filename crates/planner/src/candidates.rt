@@ -35,7 +35,8 @@ pub(crate) fn try_candidate(
 ) -> Result<Option<Proved>, AllocError>
     requires few { k ≤ 1024 }
     requires budget { 1 ≤ budget }
-    ensures { (proved : Proved) → result ≡ Ok (Some proved) → IsGoodOf shape.now rules.now k proved }
+    ensures { (proved : Proved) → result ≡ Ok (Some proved) →
+        IsGoodOf shape.now rules.now k proved }
 {
     let Some(deck) = candidate(alloc, shape, rules, k, budget)? else {
         return Ok(None);

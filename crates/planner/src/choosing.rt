@@ -9,12 +9,12 @@ ghost use Rattle.deck_space.specs.Numbers.{marks_as_numbers};
 ghost use Rattle.tree_search.specs.Habits.{Fits, IsSolved};
 ghost use Rattle.planner.specs.Choosing.{deck_habits, IsEager, IsJudged};
 
+use crate::attempt::Attempt;
+use crate::deck_chooser::DeckChooser;
 use crate::finding::next_label;
 use crate::guessing::guess;
 use crate::kept_reasons::{find_kept, note};
 use crate::shown_deck::shown_deck;
-use crate::attempt::Attempt;
-use crate::deck_chooser::DeckChooser;
 use adversary::{Attacked, attack};
 use cert_types::Proved;
 use close_rules::{Label, Reason, cheap, complete_is_judged};
@@ -50,7 +50,9 @@ impl DeckChooser {
         alloc: Global,
         state: &Partial,
     ) -> Result<Pick<Label, Reason, Proved, Attempt>, AllocError>
-        ensures fits { IfOk result (Fits deck_steps (IsSolved IsComplete Solves marks_as_numbers) (deck_habits self.now.kept.capacity self.now.budget) state.now) }
+        ensures fits { let habits = deck_habits self.now.kept.capacity self.now.budget in
+            let solved = IsSolved IsComplete Solves marks_as_numbers in
+            IfOk result (Fits deck_steps solved habits state.now) }
         ensures related { IfOk result (IsEager self.now.kept.items state.now) }
     {
         if let Some(reason) = cheap(state) {

@@ -8,8 +8,8 @@ use std::alloc::{AllocError, Global};
 /// How many misassignments a chooser remembers.
 const REMEMBERED: usize = 64;
 
-/// Searches for a good canonical deck. A partial deck is closed by a cheap reason, or else by one of
-/// the misassignments remembered; a complete one is attacked.
+/// Searches for a good canonical deck. A partial deck is closed by a cheap reason, or else by one
+/// of the misassignments remembered; a complete one is attacked.
 #[derive(Drop)]
 pub(crate) struct DeckChooser {
     /// The reasons `Evade` by which partial decks were closed, the latest last.

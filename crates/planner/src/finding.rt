@@ -15,7 +15,8 @@ use deck_state::{Mark, Partial};
 fn first_undecided(state: &Partial, j: u16) -> Option<u16>
     requires { j < state.now.ballots }
     ensures some { (t : ℕ) → result ≡ Some t → is_allowed state.now (Label.Mark j t) ≡ true }
-    ensures none { result ≡ None → (t : ℕ) → t < target_count state.now.contests → is_undecided (mark_at state.now j t) ≡ false }
+    ensures none { result ≡ None → (t : ℕ) → t < target_count state.now.contests →
+        is_undecided (mark_at state.now j t) ≡ false }
 {
     for t in 0..state.shape().targets() {
         if matches!(state.mark(j, t), Mark::Undecided) {

@@ -176,8 +176,8 @@ fn by_targets(state: &Partial, c: u16) -> Option<Label>
     None
 }
 
-// The first undecided mark of the first contest that has one: ballot by ballot where the contest can be
-// overvoted, else target by target.
+// The first undecided mark of the first contest that has one: ballot by ballot where the contest
+// can be overvoted, else target by target.
 fn next_mark(state: &Partial) -> Option<Label> {
     for c in 0..state.shape().contests() {
         let label = if state.shape().can_overvote(c) {
@@ -192,9 +192,9 @@ fn next_mark(state: &Partial) -> Option<Label> {
     None
 }
 
-/// A label that is worth a fork, of which nothing has to be known: first the totals of contests that
-/// can be overvoted; then, where a target can't have a vote, the marks that make a ballot overvoted or
-/// leave it without the target; then contest after contest.
+/// A label that is worth a fork, of which nothing has to be known: first the totals of contests
+/// that can be overvoted; then, where a target can't have a vote, the marks that make a ballot
+/// overvoted or leave it without the target; then contest after contest.
 pub(crate) fn preferred(state: &Partial) -> Option<Label> {
     if let Some(label) = next_split(state) {
         return Some(label);

@@ -2,9 +2,9 @@ ghost use Rattle.std.specs.Prelude.{◌≡◌, ◌<◌, true, Some, Ok, length};
 ghost use Rattle.close_rules.specs.declared.reason.Reason.{Reason};
 ghost use Rattle.close_rules.specs.Refutes.{refutes};
 
+use crate::shown_deck::shown_deck;
 use adversary::{Attacked, attack};
 use close_rules::{Reason, refutes};
-use crate::shown_deck::shown_deck;
 use deck_state::{Partial, Step};
 use lat_base::{MOST_TARGETS, Shape};
 use lat_misassign::{MisFault, Misassignment};
@@ -59,8 +59,8 @@ fn targets_of(alloc: Global, shape: &Shape, contests: &[u16]) -> Result<Vec<u16>
     Ok(targets)
 }
 
-// A misassignment of the part's targets as one of the style's, under which each other target keeps its
-// own marks.
+// A misassignment of the part's targets as one of the style's, under which each other target keeps
+// its own marks.
 fn extended(
     alloc: Global,
     shape: &Shape,

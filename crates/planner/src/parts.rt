@@ -2,20 +2,16 @@ ghost use Rattle.std.specs.Prelude.{◌≡◌, ◌<◌, ◌≤◌, Some, Ok, len
 ghost use Rattle.cert_types.specs.LowerPart.{LowerPart};
 ghost use Rattle.planner.specs.Step.{IsLowerOf};
 
-use crate::searching::search_size;
 use crate::searched::Searched;
+use crate::searching::search_size;
 use cert_types::Lower;
 use lat_base::{Rules, Shape};
 use projection::{PartFault, part};
 use std::alloc::{AllocError, Global};
 
-// The contests of the limit and number of targets of contest c, where c is the first of them, there are
-// others, and they aren't all.
-fn alike_contests(
-    alloc: Global,
-    shape: &Shape,
-    c: u16,
-) -> Result<Option<Vec<u16>>, AllocError>
+// The contests of the limit and number of targets of contest c, where c is the first of them, there
+// are others, and they aren't all.
+fn alike_contests(alloc: Global, shape: &Shape, c: u16) -> Result<Option<Vec<u16>>, AllocError>
     requires { c < length shape.now }
 {
     let mut contests = Vec::new(alloc);
@@ -33,8 +29,8 @@ fn alike_contests(
     Ok(Some(contests))
 }
 
-// Whether contest c must have a target with the least total that the rules allow: its totals differ,
-// and all greater ones are too much for the votes on the ballots that may count.
+// Whether contest c must have a target with the least total that the rules allow: its totals
+// differ, and all greater ones are too much for the votes on the ballots that may count.
 fn is_forced(shape: &Shape, rules: &Rules, k: u16, c: u16) -> bool
     requires { c < length shape.now }
 {
@@ -63,7 +59,8 @@ fn forced_contests(
     Ok(contests)
 }
 
-// The lower part of these contests, where they are a part of the style and the search over it closes.
+// The lower part of these contests, where they are a part of the style and the search over it
+// closes.
 fn try_part(
     alloc: Global,
     shape: &Shape,
@@ -74,7 +71,8 @@ fn try_part(
 ) -> Result<Option<Lower>, AllocError>
     requires few { k ≤ 1024 }
     requires budget { 1 ≤ budget }
-    ensures { (lower : LowerPart) → result ≡ Ok (Some lower) → IsLowerOf shape.now rules.now k lower }
+    ensures { (lower : LowerPart) → result ≡ Ok (Some lower) →
+        IsLowerOf shape.now rules.now k lower }
 {
     let part_shape = match part(alloc, shape, contests.as_slice()) {
         Ok(part_shape) => part_shape,
@@ -104,7 +102,8 @@ fn try_alike(
     requires few { k ≤ 1024 }
     requires contest { c < length shape.now }
     requires budget { 1 ≤ budget }
-    ensures { (lower : LowerPart) → result ≡ Ok (Some lower) → IsLowerOf shape.now rules.now k lower }
+    ensures { (lower : LowerPart) → result ≡ Ok (Some lower) →
+        IsLowerOf shape.now rules.now k lower }
 {
     match alike_contests(alloc, shape, c)? {
         Some(contests) => {
@@ -125,7 +124,8 @@ fn try_groups(
 ) -> Result<Option<Lower>, AllocError>
     requires few { k ≤ 1024 }
     requires budget { 1 ≤ budget }
-    ensures { (lower : LowerPart) → result ≡ Ok (Some lower) → IsLowerOf shape.now rules.now k lower }
+    ensures { (lower : LowerPart) → result ≡ Ok (Some lower) →
+        IsLowerOf shape.now rules.now k lower }
 {
     for c in 0..shape.contests() {
         let lower = try_alike(alloc, shape, rules, k, c, budget)?;
@@ -136,9 +136,9 @@ fn try_groups(
     Ok(None)
 }
 
-/// A lower part of `k` ballots over some part of the style, if one is found: a group of contests of one
-/// shape, or the contests that must have a target with the least total. The only error is want of
-/// memory.
+/// A lower part of `k` ballots over some part of the style, if one is found: a group of contests of
+/// one shape, or the contests that must have a target with the least total. The only error is want
+/// of memory.
 pub(crate) fn try_parts(
     alloc: Global,
     shape: &Shape,
@@ -148,7 +148,8 @@ pub(crate) fn try_parts(
 ) -> Result<Option<Lower>, AllocError>
     requires few { k ≤ 1024 }
     requires budget { 1 ≤ budget }
-    ensures { (lower : LowerPart) → result ≡ Ok (Some lower) → IsLowerOf shape.now rules.now k lower }
+    ensures { (lower : LowerPart) → result ≡ Ok (Some lower) →
+        IsLowerOf shape.now rules.now k lower }
 {
     let of_group = try_groups(alloc, shape, rules, k, budget)?;
     if of_group.is_some() {

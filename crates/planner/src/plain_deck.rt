@@ -9,8 +9,8 @@ use lat_base::{Rules, Shape};
 use std::alloc::{AllocError, Global};
 use symmetry::plain_is_canonical;
 
-/// The plain deck, which is good for every style, with a tree that shows that it is robust. The only
-/// error is want of memory.
+/// The plain deck, which is good for every style, with a tree that shows that it is robust. The
+/// only error is want of memory.
 pub(crate) fn plain_proved(
     alloc: Global,
     shape: &Shape,

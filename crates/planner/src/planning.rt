@@ -55,13 +55,14 @@ fn plan_sizes(
     }
 }
 
-/// Plans a style: a good deck of the fewest ballots, of at most `max`; or that there is none; or, where
-/// a search or an attack of `budget` nodes doesn't tell, from which number of ballots on it is open.
+/// Plans a style: a good deck of the fewest ballots, of at most `max`; or that there is none; or,
+/// where a search or an attack of `budget` nodes doesn't tell, from which number of ballots on it
+/// is open.
 ///
 /// Where the plain deck has at most `max` ballots there is always a good deck: then the answer is
-/// `Least`, or `Spent` with a best deck of at most as many. A budget that is at least
-/// 2^(2 · max · T + 1) and three times the factorial of T, the number of targets, is never spent. Which
-/// of the good decks of least size is given is left open. The only error is want of memory.
+/// `Least`, or `Spent` with a best deck of at most as many. A budget that is at least 2^(2 · max ·
+/// T + 1) and three times the factorial of T, the number of targets, is never spent. Which of the
+/// good decks of least size is given is left open. The only error is want of memory.
 pub fn plan(
     alloc: Global,
     shape: &Shape,

@@ -10,7 +10,8 @@ use lat_base::{Rules, Shape};
 use std::alloc::{AllocError, Global};
 use tree_search::{Outcome, search};
 
-/// Searches among the decks of `k` ballots for a good canonical one. The only error is want of memory.
+/// Searches among the decks of `k` ballots for a good canonical one. The only error is want of
+/// memory.
 pub(crate) fn search_size(
     alloc: Global,
     shape: &Shape,

@@ -18,11 +18,13 @@ use lat_ballots::plain_size;
 use lat_base::{Rules, Shape};
 use std::alloc::{AllocError, Global};
 
-/// How many nodes a tree over a part, or an attack on a deck for which nothing is claimed, may have.
+/// How many nodes a tree over a part, or an attack on a deck for which nothing is claimed, may
+/// have.
 pub(crate) const QUICK: u64 = 200_000;
 
-/// How many nodes the first attack on a pattern may have: most patterns that are robust need few, and
-/// the whole budget is spent on the others only where the answer would be that a budget was spent.
+/// How many nodes the first attack on a pattern may have: most patterns that are robust need few,
+/// and the whole budget is spent on the others only where the answer would be that a budget was
+/// spent.
 const GLANCE: u64 = 20_000;
 
 // A good deck of `k` ballots, if one is found with small budgets: the candidate, or a pattern.
@@ -35,7 +37,8 @@ fn try_quickly(
 ) -> Result<Option<Proved>, AllocError>
     requires few { k ≤ 1024 }
     requires budget { 1 ≤ budget }
-    ensures { (proved : Proved) → result ≡ Ok (Some proved) → IsGoodOf shape.now rules.now k proved }
+    ensures { (proved : Proved) → result ≡ Ok (Some proved) →
+        IsGoodOf shape.now rules.now k proved }
 {
     if let Some(proved) = try_candidate(alloc, shape, rules, k, budget.min(QUICK))? {
         return Ok(Some(proved));
@@ -118,9 +121,9 @@ fn plan_other(
     Ok(step)
 }
 
-/// The plan for `k` ballots: the plain deck; or a cheap reason for which no deck is good; a few decks
-/// and parts of the style with small budgets; all decks; and the patterns where that spends its
-/// budget. The only error is want of memory.
+/// The plan for `k` ballots: the plain deck; or a cheap reason for which no deck is good; a few
+/// decks and parts of the style with small budgets; all decks; and the patterns where that spends
+/// its budget. The only error is want of memory.
 pub(crate) fn plan_size(
     alloc: Global,
     shape: &Shape,
