@@ -1,5 +1,5 @@
 -- The plain deck is good.
-use Rattle.std.proofs.Common.{◌≡◌, ◌≤◌, ℕ, List, refl, sym, subst}
+use Rattle.std.proofs.Common.{◌≡◌, ℕ, List, refl, sym, subst}
 use Rattle.lat_base.specs.declared.contest.Contest.{Contest}
 use Rattle.lat_base.specs.Canonical.{IsCanonical}
 use Rattle.lat_base.specs.Goodness.{IsRobust}
@@ -11,7 +11,6 @@ use Rattle.lat_ballots.proofs.PlainDeck.{plain_long, plain_fits}
 use Rattle.evade_space.specs.declared.skipped.Skipped.{Skipped}
 use Rattle.evade_space.specs.Trees.{IsRobustTree}
 use Rattle.tree_core.specs.declared.node.Node.{Node}
-use Rattle.cert_types.specs.declared.proved.Proved.{Proved}
 use Rattle.planner.specs.Answer.{most}
 use Rattle.planner.specs.Searched.{IsGoodOf}
 

@@ -1,5 +1,5 @@
 -- Decks that were attacked without success.
-use Rattle.std.specs.Prelude.{◌⊎◌, ℕ, ◌<◌, Bool, List}
+use Rattle.std.specs.Prelude.{◌⊎◌, ℕ, Bool, List}
 use Rattle.lat_base.specs.declared.contest.Contest.{Contest}
 use Rattle.lat_base.specs.Canonical.{IsCanonical}
 use Rattle.lat_base.specs.Goodness.{IsRobust}
