@@ -1,0 +1,9 @@
+pub mod Filled
+pub mod Picks
+pub mod Remembered
+pub mod Styles
+pub mod Outcomes
+pub mod PlainGood
+pub mod Trials
+pub mod LowerParts
+pub mod TreeBounds

@@ -1,0 +1,9 @@
+pub mod Answer
+pub mod Choosing
+pub mod Eager
+pub mod License
+pub mod Lower
+pub mod Reach
+pub mod Searched
+pub mod Step
+pub mod Tried
