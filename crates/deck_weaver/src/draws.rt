@@ -1,8 +1,11 @@
 ghost use Rattle.std.specs.Prelude.{◌<◌, ◌≤◌};
 
-// The numbers of the linear congruential generator of ISO C's example of `rand`, modulo 2^31.
+// The factor and the step of the linear congruential generator in ISO C's example of `rand`.
 const FACTOR: u64 = 1_103_515_245;
+
 const STEP: u64 = 12_345;
+
+// How many states there are.
 const MODULUS: u64 = 1 << 31;
 
 /// Numbers that look drawn and are the same in each run. The last eight bits of a state, which

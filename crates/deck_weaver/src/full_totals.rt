@@ -9,8 +9,10 @@ use std::alloc::{AllocError, Global};
 // How many lists of one sum are looked at.
 const MOST_LISTS: u32 = 200;
 
-// How many sums are looked at until one has a list, and below the first that has one.
+// How many sums are looked at until one has a list.
 const MOST_SUMS: u32 = 64;
+
+// How many sums are looked at below the first that has one.
 const MORE_SUMS: u32 = 2;
 
 // How many working ballots may overvote a contest one of whose targets has no vote.
@@ -19,11 +21,16 @@ const MOST_OVER: u16 = 2;
 // A list of less score is good enough to overvote no working ballot.
 const GOOD_SCORE: u64 = 60;
 
-// What the score counts: how often each total is used already, each vote that is missing, each
-// total of all ballots, and each ballot that is overvoted.
+// What a target adds to the score for each other target with its total.
 const USED: u64 = 4;
+
+// What a vote adds that is missing from a full contest.
 const MISSING: u64 = 3;
+
+// What a total adds that is a vote on every ballot.
 const WHOLE: u64 = 40;
+
+// What a ballot adds that overvotes the contest.
 const OVERVOTED: u64 = 30;
 
 /// The search for the totals of a contest that can be overvoted, and what the others have.

@@ -36,7 +36,8 @@ fn if_it_obeys(shape: &Shape, rules: &Rules, deck: Deck) -> Option<Deck>
     }
 }
 
-// A good deck of `k` ballots: judges what the loom has, and lays one contest anew where it is evaded.
+// A good deck of `k` ballots, where one is found: judges what the loom has, and lays one contest
+// anew as long as the deck is evaded.
 fn mend(
     alloc: Global,
     shape: &Shape,
@@ -70,10 +71,11 @@ fn mend(
     Ok(None)
 }
 
-/// A good deck of `k` ballots, woven and then mended where it is evaded, if one is found: every
-/// ballot full in every contest, the totals spread over the contests, the ballots drawn. Each attack
-/// takes at most `budget` Close and Fork nodes, and at most 200,000. Whether a deck is found, and
-/// which, is left open, but the same arguments give the same. The only error is want of memory.
+/// A good deck of `k` ballots, woven and then mended where it is evaded, if one is found: each
+/// working ballot has as many marks as the limit in the contests that can be overvoted, the totals
+/// are spread over the contests, and the ballots are drawn. Each attack takes at most `budget` Close
+/// and Fork nodes, and at most 200,000. Whether a deck is found, and which, is left open, but the
+/// same arguments give the same. The only error is want of memory.
 pub fn weave(
     alloc: Global,
     shape: &Shape,

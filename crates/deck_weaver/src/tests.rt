@@ -2,7 +2,7 @@ use crate::draws::Draws;
 use crate::rising_lists::{fill_first, step_on};
 use std::test::Fail;
 
-// The three lists of three numbers from 1 to 6 with sum 10, in dictionary order, and none of sum 16.
+// The three lists of three numbers from 1 to 6 with sum 10, in dictionary order; none has sum 16.
 #[test]
 fn lists_of_a_sum(rt: HostRuntime) -> Result<(), Fail> {
     let mut list = [0u16; 3];

@@ -1,6 +1,6 @@
-//! Weaves a deck for each line of standard input, and prints in which cases one is found. A line has a
-//! name, the rules distinct, least, blank and over, a number of ballots, and the style's contests, each
-//! as its limit and its number of targets.
+//! Weaves a deck for each line of standard input, and prints in which cases one is found. A line
+//! has a name, the rules distinct, least, blank and over, a number of ballots, and the style's
+//! contests, each as its limit and its number of targets.
 #![tactic(auto)]
 
 use anyhow::{Result, ensure};
@@ -18,7 +18,10 @@ fn number(word: &str) -> u16 {
 
 // Whether a deck of `k` ballots is woven.
 fn is_woven(alloc: Global, contests: &[Contest], rules: &Rules, k: u16) -> Result<bool> {
-    ensure!(contests.len() <= usize::from(MOST_CONTESTS), "too many contests");
+    ensure!(
+        contests.len() <= usize::from(MOST_CONTESTS),
+        "too many contests"
+    );
     ensure!(k <= MOST_BALLOTS, "too many ballots");
     let shape = Shape::new(alloc, contests)?;
     let found = weave(alloc, &shape, rules, k, BUDGET)?;
