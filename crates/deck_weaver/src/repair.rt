@@ -73,9 +73,9 @@ fn mend(
 
 /// A good deck of `k` ballots, woven and then mended where it is evaded, if one is found: each
 /// working ballot has as many marks as the limit in the contests that can be overvoted, the totals
-/// are spread over the contests, and the ballots are drawn. Each attack takes at most `budget` Close
-/// and Fork nodes, and at most 200,000. Whether a deck is found, and which, is left open, but the
-/// same arguments give the same. The only error is want of memory.
+/// are spread over the contests, and the ballots are drawn. Each attack takes at most `budget`
+/// Close and Fork nodes, and at most 200,000. Whether a deck is found, and which, is left open, but
+/// the same arguments give the same. The only error is want of memory.
 pub fn weave(
     alloc: Global,
     shape: &Shape,
