@@ -42,7 +42,8 @@ fn planned(
 
 // Two contests of two targets need totals 1, 2 and 1, 3 and a blank ballot; one of three the totals
 // 1, 2, 3. Of three targets with two votes two ballots tell. Four contests of one target, no two of
-// the same limit, have the totals 1 to 4 with the ballot that marks all.
+// the same limit, have the totals 1 to 4 with the ballot that marks all. Twenty contests of four targets
+// have too few lists of totals at 17 ballots, and at 18 a deck is woven.
 #[test]
 fn styles_are_planned(rt: HostRuntime) -> Result<(), Fail> {
     let alloc = rt.alloc();
@@ -64,5 +65,9 @@ fn styles_are_planned(rt: HostRuntime) -> Result<(), Fail> {
     );
     assert_eq!(rt; planned(alloc, &lone, 1, 9, 1_000)?, Outcome::Least(5));
     assert_eq!(rt; planned(alloc, &north, 1, 40, 1_000)?, Outcome::Least(12));
+    assert_eq!(rt;
+        planned(alloc, &[contest(1, 4); 20], 1, 400, 10_000)?,
+        Outcome::Least(18)
+    );
     Ok(())
 }
