@@ -108,6 +108,9 @@ fn kept_counts_are_counts_taken_anew(rt: HostRuntime) -> Result<(), Fail> {
             deck.set(1, t, true);
         }
     }
+    if deck.targets() != shape.targets() {
+        return Err(Fail::from("no deck"));
+    }
     let space = Evade::own(alloc, &shape, &deck)?;
     let mut state = space.state(alloc)?;
     let start = Walked { made: 0, right: 0 };
