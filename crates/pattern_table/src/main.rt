@@ -16,11 +16,10 @@ fn digit(deck: &Deck, j: u16) -> char {
             worth |= 1 << t;
         }
     }
-    char::from(if worth < 10 {
-        b'0' + worth
-    } else {
-        b'a' + (worth % 16 - 10)
-    })
+    match b"0123456789abcdef".get(usize::from(worth)) {
+        Some(digit) => char::from(*digit),
+        None => '?',
+    }
 }
 
 // A digit for each ballot, or a dot where there is none.
@@ -65,6 +64,9 @@ fn print_patterns(
         if targets > 0 && list.push(Contest { limit, targets }).is_err() {
             return false;
         }
+    }
+    if list.len() > contests.len() {
+        return false;
     }
     let (Ok(shape), Ok(rules)) = (
         Shape::new(rt.alloc(), list.as_slice()),
