@@ -5,7 +5,6 @@ pub mod Places
 pub mod CsvSteps
 pub mod ReaderSteps
 pub mod Fields
-pub mod NumberFacts
 pub mod Called
 pub mod DraftFacts
 pub mod RowCounts

@@ -4,13 +4,13 @@ use Rattle.lat_base.specs.declared.contest.Contest.{Contest}
 use Rattle.lat_base.specs.declared.contest_names.ContestNames.{ContestNames}
 use Rattle.lat_base.specs.Shape.{target_count}
 use Rattle.lat_base.specs.Rules.{is_blank}
+use Rattle.numerals.specs.Numerals.{number_of}
 use Rattle.lat_ballots.specs.Deck.{Ballots, ballot_at, mark_at, with_mark, blank_ballots}
 use Rattle.deck_text.specs.declared.fault.CsvFault.{CsvFault}
 use Rattle.deck_text.specs.declared.fault.CsvFault.TheVariants.{NotCsv, BadNumber, UnknownTarget, Repeated}
 use Rattle.deck_text.specs.declared.mark.Mark.{Mark}
 use Rattle.deck_text.specs.declared.mark.Mark.TheVariants as mark
 use Rattle.deck_text.specs.Faults.{◌>>=◌, or_fault}
-use Rattle.deck_text.specs.Numerals.{number_in}
 use Rattle.deck_text.specs.Rows.{field_of, after_header}
 use Rattle.deck_text.specs.TargetNames.{FullName, target_names, target_called}
 
@@ -24,7 +24,7 @@ following ballots n = if (n == ballots + 1) || (nat_lt 0 ballots && (n == ballot
 
 -- the number of a row's ballot, from 1 to 1,024
 abbrev pub ballot_number : ℕ → List ℕ → Option ℕ
-ballot_number ballots field = option_and_then (following ballots) (number_in 1024 field)
+ballot_number ballots field = option_and_then (following ballots) (number_of 0 1024 field)
 
 -- what a row marks: nothing where both names are empty, or the target with these names
 abbrev pub mark_called : List FullName → List ℕ → List ℕ → Option Mark

@@ -5,9 +5,11 @@ pub mod TotalsText
 pub mod Faults
 pub mod Rows
 pub mod Left
-pub mod Numerals
 pub mod Draft
 pub mod RowCount
 pub mod DeckRead
 pub mod ReportRead
 pub mod VerifyText
+pub mod PlanText
+pub mod CountyText
+pub mod ManifestText

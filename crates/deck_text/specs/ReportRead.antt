@@ -4,10 +4,10 @@ use Rattle.std.specs.Prelude.{ℕ, ◌+◌, ◌-◌, ◌^◌, ◌==◌, List, []
 use Rattle.lat_base.specs.declared.contest.Contest.{Contest}
 use Rattle.lat_base.specs.declared.contest_names.ContestNames.{ContestNames}
 use Rattle.lat_base.specs.Shape.{target_count}
+use Rattle.numerals.specs.Numerals.{number_of}
 use Rattle.deck_text.specs.declared.fault.CsvFault.{CsvFault}
 use Rattle.deck_text.specs.declared.fault.CsvFault.TheVariants.{NotCsv, BadNumber, UnknownTarget, Repeated, Missing}
 use Rattle.deck_text.specs.Faults.{◌>>=◌, or_fault}
-use Rattle.deck_text.specs.Numerals.{number_in}
 use Rattle.deck_text.specs.Rows.{field_of, after_header}
 use Rattle.deck_text.specs.TargetNames.{FullName, target_names, target_called}
 
@@ -23,7 +23,7 @@ with_total totals t n = if is_some (get_or totals t None) then None else Some (s
 abbrev pub report_row : List FullName → ℕ → List (Option ℕ) → List (List ℕ)
     → Result (List (Option ℕ)) CsvFault
 report_row names row totals fields = do
-  n ← or_fault (number_in (2 ^ 32 - 1) (field_of fields 2)) (BadNumber row)
+  n ← or_fault (number_of 0 (2 ^ 32 - 1) (field_of fields 2)) (BadNumber row)
   t ← or_fault (target_called names (field_of fields 0) (field_of fields 1)) (UnknownTarget row)
   or_fault (with_total totals t n) (Repeated row)
 

@@ -11,12 +11,12 @@ ghost use Rattle.deck_text.specs.TargetNames.{target_names};
 use crate::draft::Draft;
 use crate::find::find_target;
 use crate::mark::Mark;
-use crate::number::number_in;
 use crate::records::{Records, field};
 use crate::{CsvFail, CsvFault};
 use csv::ByteRecord;
 use lat_ballots::Deck;
 use lat_base::{Names, Shape};
+use numerals::number_of;
 use std::alloc::Global;
 
 // The number of a row's ballot, where it is that of the last ballot or one more.
@@ -26,7 +26,7 @@ fn ballot_number(ballots: u16, field: &[u8]) -> Option<u16>
     ensures next { IfSome result (λ n. (n ≡ ballots + 1) ⊎ (n ≡ ballots)) }
     ensures range { IfSome result (λ n. (0 < n) × (n ≤ 1024)) }
 {
-    let number = number_in(field, 1024)? as u16;
+    let number = number_of(field, 0, 1024)? as u16;
     if number == ballots + 1 || (ballots > 0 && number == ballots) {
         Some(number)
     } else {
@@ -50,7 +50,6 @@ fn mark_called(shape: &Shape, names: &Names, contest: &[u8], target: &[u8]) -> O
 }
 
 // Adds row `row` to the deck.
-#[tactic(auto, using(crate::proofs::RowCounts::row_more))]
 fn add_row(
     draft: &mut Draft,
     shape: &Shape,

@@ -9,11 +9,11 @@ ghost use Rattle.deck_text.specs.Rows.{file_records};
 ghost use Rattle.deck_text.specs.TargetNames.{target_names};
 
 use crate::find::find_target;
-use crate::number::number_in;
 use crate::records::{Records, field};
 use crate::{CsvFail, CsvFault};
 use csv::ByteRecord;
 use lat_base::{Names, Shape};
+use numerals::number_of;
 use std::alloc::{AllocError, Global};
 
 // No total for any target of the style.
@@ -44,7 +44,7 @@ fn add_row(
         ≡ Err fault) }
     ensures rows { OnOk result (total_rows totals.new ≡ total_rows totals.old + 1) }
 {
-    let Some(total) = number_in(field(fields, 2), u32::MAX) else {
+    let Some(total) = number_of(field(fields, 2), 0, u64::from(u32::MAX)) else {
         return Err(CsvFault::BadNumber(row));
     };
     let Some(t) = find_target(shape, names, field(fields, 0), field(fields, 1)) else {
@@ -53,7 +53,7 @@ fn add_row(
     if totals[usize::from(t)].is_some() {
         return Err(CsvFault::Repeated(row));
     }
-    totals[usize::from(t)] = Some(total);
+    totals[usize::from(t)] = Some(total as u32);
     Ok(())
 }
 
@@ -106,7 +106,8 @@ fn first_missing(totals: &[Option<u32>]) -> Option<usize>
 // The totals where each target has one, or the first target with none.
 fn whole_report(alloc: Global, totals: &[Option<u32>]) -> Result<Vec<u32>, CsvFail>
     requires { length totals.now ≤ 256 }
-    ensures { Gives (λ totals. totals.items) result (whole_report totals.now) }
+    ensures totals { Gives (λ totals. totals.items) result (whole_report totals.now) }
+    ensures long { IfOk result (λ all. length all.items ≡ length totals.now) }
 {
     if let Some(t) = first_missing(totals) {
         return Err(CsvFail::Fault(CsvFault::Missing(t as u16)));
@@ -137,7 +138,11 @@ pub fn read_report_csv(
     bytes: &[u8],
 ) -> Result<Vec<u32>, CsvFail>
     requires { NamesFit names.now.contests shape.now }
-    ensures { Gives (λ totals. totals.items) result (report_read shape.now names.now.contests (file_records bytes.now)) }
+    ensures totals { Gives (λ totals. totals.items) result
+        (report_read shape.now names.now.contests (file_records bytes.now)) }
+
+    // There is one for each target.
+    ensures long { IfOk result (λ totals. length totals.items ≡ target_count shape.now) }
 {
     let _targets = shape.targets();
     let rows = Records::open(alloc, bytes, b"contest", b"target", b"total")?;

@@ -1,6 +1,12 @@
-pub mod NumberFacts
 pub mod Files
 pub mod PlanFacts
+pub mod IdText
 pub mod Scripts
+pub mod Later
 pub mod Since
+pub mod Certified
 pub mod Calls
+pub mod Says
+pub mod Counted
+pub mod Drawn
+pub mod AllEnds

@@ -1,8 +1,6 @@
 -- The style that is asked for, from the bytes of a definition, or why there is none.
-use Rattle.std.specs.Prelude.{◌*◌, ◌||◌, ℕ, List, position, nat_lt, if◌then◌else◌, Option}
-use Rattle.std.specs.Prelude.{Some, None, Result, Ok, Err}
+use Rattle.std.specs.Prelude.{ℕ, List, position, Option, Some, None, Result, Ok, Err}
 use Rattle.std.specs.Str.{bytes_eq}
-use Rattle.lat_base.specs.Shape.{target_count}
 use Rattle.election_json.specs.declared.fault.DefFault.{DefFault}
 use Rattle.election_json.specs.Definition.{DefinitionValue, definition_of, style_at}
 use Rattle.lat_top.specs.declared.asked_style.AskedStyle.{AskedStyle}
@@ -35,12 +33,6 @@ style_in id (Ok definition) = style_by_place definition (style_place definition 
 -- the id
 abbrev pub asked_style : List ℕ → List ℕ → Result AskedStyle Refusal
 asked_style id bytes = style_in id (definition_of bytes)
-
--- a style that is small enough to try every deck up to the size cap
-abbrev pub narrow_style : ℕ → AskedStyle → Result AskedStyle Refusal
-narrow_style max style =
-    if nat_lt 16 (max * target_count style.shape) || nat_lt 4 (target_count style.shape)
-    then Err (r.TooWide (max * target_count style.shape)) else Ok style
 
 -- the style of that id in a definition's file
 abbrev pub style_in_file : List ℕ → List ℕ → Script AskedStyle

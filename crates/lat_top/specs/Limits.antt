@@ -5,6 +5,10 @@ use Rattle.std.specs.Prelude.{ℕ}
 abbrev pub file_limit : ℕ
 file_limit = 8388608
 
+-- how many bytes a certificate or an open file may have
+abbrev pub cert_limit : ℕ
+cert_limit = 67108864
+
 -- how many bytes a file name may have
 abbrev pub most_name_bytes : ℕ
 most_name_bytes = 1024
@@ -19,3 +23,11 @@ least_budget = 1000
 
 abbrev pub most_budget : ℕ
 most_budget = 1000000000000
+
+-- how many styles `sample` may generate
+abbrev pub most_samples : ℕ
+most_samples = 1000
+
+-- the greatest number from which the generator of `sample` may start
+abbrev pub most_seed : ℕ
+most_seed = 2147483647

@@ -1,5 +1,9 @@
 -- The job of `verify`: what an attack on the deck of a file comes to.
-use Rattle.std.specs.Prelude.{◌≡◌, ◌≤◌, ◌*◌, ℕ, List, [], length, None, Result, Ok, Err}
+use Rattle.std.specs.Prelude.{◌≡◌, ◌≤◌, ◌*◌, ◌++◌, ℕ, List, [], ◌∷◌, length, codes}
+use Rattle.std.specs.Prelude.{None, Result, Ok, Err}
+use Rattle.cert_format.specs.Files.{EvadeValue, evade_of, evade_text, IsEvade}
+use Rattle.evade_space.specs.declared.skipped.Skipped.{Skipped}
+use Rattle.tree_core.specs.declared.node.Node.{Node}
 use Rattle.lat_ballots.specs.Deck.{Ballots}
 use Rattle.adversary.specs.declared.attacking.Attacked.{Attacked}
 use Rattle.adversary.specs.declared.attacking.Attacked.TheVariants as attacked
@@ -18,7 +22,7 @@ use Rattle.lat_top.specs.declared.status.Status.{Status}
 use Rattle.lat_top.specs.declared.status.Status.TheVariants as s
 use Rattle.lat_top.specs.Words.{Verify}
 use Rattle.lat_top.specs.Script.{Script, Give, ◌>>=◌, read, judge}
-use Rattle.lat_top.specs.Job.{Job}
+use Rattle.lat_top.specs.Job.{Job, job}
 use Rattle.lat_top.specs.Limits.{file_limit}
 use Rattle.lat_top.specs.AskedStyle.{style_in_file}
 use Rattle.lat_top.specs.Written.{Texts}
@@ -51,7 +55,25 @@ attack_status n (attacked.Evaded evader) = s.Evaded
 attack_status n (attacked.Robust tree) = s.Done
 attack_status n (attacked.Spent tree) = s.Spent n None
 
--- no file, and the summary of an attack on the deck
+-- an attack that was spent, as an evade file
+abbrev pub attacked_file : Attackable → List (Node ℕ Skipped) → EvadeValue
+attacked_file inputs tree = let style = inputs.style in
+    evade_of style.names style.shape style.rules inputs.deck tree
+
+-- the file of an attack that was spent
+abbrev pub attack_files : List ℕ → Attackable → Attacked → List (List ℕ × List ℕ)
+attack_files name inputs (attacked.Evaded evader) = []
+attack_files name inputs (attacked.Robust tree) = []
+attack_files name inputs (attacked.Spent tree) =
+    (name ++ codes ".open", evade_text (attacked_file inputs tree)) ∷ []
+
+-- the bytes of that file spell one
+abbrev pub AttackSpelled : Attackable → Attacked → Type 0
+AttackSpelled inputs (attacked.Evaded evader) = Unit {0}
+AttackSpelled inputs (attacked.Robust tree) = Unit {0}
+AttackSpelled inputs (attacked.Spent tree) = IsEvade (attacked_file inputs tree)
+
+-- the status, the file and the summary of an attack on the deck
 pub record IsVerify (verify : Verify) (inputs : Attackable) (status : Status) (texts : Texts) :
     Type 0 where
   pub attack : Attacked
@@ -59,13 +81,11 @@ pub record IsVerify (verify : Verify) (inputs : Attackable) (status : Status) (t
   -- an ample budget isn't spent
   pub ends : 3 * factorial (target_count inputs.style.shape) ≤ verify.budget → IsEnded attack
   pub status_is : status ≡ attack_status (length inputs.deck.ballots) attack
-  pub puts : texts.puts ≡ []
+  pub puts : texts.puts ≡ attack_files verify.deck inputs attack
+  pub spelled : AttackSpelled inputs attack
   pub summary : let style = inputs.style in texts.summary
       ≡ verify_text style.shape style.names style.rules inputs.deck.ballots attack
 
 abbrev pub verify_job : Verify → Job
-verify_job verify = record {
-  Inputs = Attackable;
-  reads = attackable verify.definition verify.style verify.deck;
-  Is = IsVerify verify;
-}
+verify_job verify = job Attackable
+    (attackable verify.definition verify.style verify.deck) (IsVerify verify)

@@ -1,9 +1,10 @@
 ghost use Rattle.std.specs.Prelude.{◌≡◌, ◌<◌, ◌≤◌, ℕ, length, IfOk};
 ghost use Rattle.lat_base.specs.Names.{NamesFit};
-ghost use Rattle.election_json.specs.Definition.{DefinitionValue};
+ghost use Rattle.election_json.specs.Definition.{DefinitionValue, definition_of};
+ghost use Rattle.lat_top.specs.AllJob.{definition_in_file, or_definition};
 ghost use Rattle.lat_top.specs.Script.{Reads, moment};
 ghost use Rattle.lat_top.specs.Judged.{Judged};
-ghost use Rattle.lat_top.specs.AskedStyle.{asked_style, ruled_style, narrow_style, style_in_file};
+ghost use Rattle.lat_top.specs.AskedStyle.{asked_style, ruled_style, style_in_file};
 
 use crate::asked_style::AskedStyle;
 use crate::reading::{FILE_LIMIT, read_file};
@@ -12,9 +13,9 @@ use election_json::{DefFail, Definition, read_definition};
 use lat_shelf::Shelf;
 use std::alloc::{AllocError, Global};
 
-// Style number i, under the definition's rules.
+/// Style number i, under the definition's rules.
 #[tactic(auto, using(crate::proofs::PlanFacts::style_fits))]
-fn ruled_style(alloc: Global, definition: &Definition, i: u32) -> Result<AskedStyle, AllocError>
+pub fn ruled_style(alloc: Global, definition: &Definition, i: u32) -> Result<AskedStyle, AllocError>
     requires { i < length definition.now.styles }
     ensures style { IfOk result (λ style. style ≡ ruled_style definition.now i) }
     ensures fits { IfOk result (λ style. NamesFit style.names.contests style.shape) }
@@ -28,8 +29,7 @@ fn ruled_style(alloc: Global, definition: &Definition, i: u32) -> Result<AskedSt
 }
 
 // The style of that id, from the bytes of a definition, or the first refusal: the definition's
-// first
-// fault, then that no style has the id.
+// first fault, then that no style has the id.
 fn find_style(alloc: Global, bytes: &[u8], id: &str) -> Result<AskedStyle, Refusal>
     ensures style { Judged result (asked_style id.now bytes.now) }
     ensures fits { IfOk result (λ style. NamesFit style.names.contests style.shape) }
@@ -48,6 +48,30 @@ fn find_style(alloc: Global, bytes: &[u8], id: &str) -> Result<AskedStyle, Refus
     }
 }
 
+// The definition that bytes are, or its first fault.
+fn find_definition(alloc: Global, bytes: &[u8]) -> Result<Definition, Refusal>
+    ensures { Judged result (or_definition (definition_of bytes.now)) }
+{
+    match read_definition(alloc, bytes) {
+        Ok(definition) => Ok(definition),
+        Err(DefFail::Fault(fault)) => Err(Refusal::Definition(fault)),
+        Err(DefFail::Memory) => Err(Refusal::Memory),
+    }
+}
+
+/// The definition in a file.
+pub fn read_definition_file<H: Shelf>(
+    alloc: Global,
+    shelf: &mut H,
+    name: &str,
+) -> Result<Definition, Refusal>
+    ensures { let seen = moment H.files H.faults in
+        Reads (definition_in_file name.now) (seen shelf.old) (seen shelf.new) result }
+{
+    let definition = read_file(alloc, shelf, name, FILE_LIMIT)?;
+    find_definition(alloc, &definition)
+}
+
 /// The style of that id in a definition's file.
 pub fn read_style<H: Shelf>(
     alloc: Global,
@@ -61,18 +85,4 @@ pub fn read_style<H: Shelf>(
 {
     let definition = read_file(alloc, shelf, name, FILE_LIMIT)?;
     find_style(alloc, &definition, id)
-}
-
-/// The style, where it is small enough to try every deck up to the size cap.
-pub fn narrow_style(style: AskedStyle, max: u16) -> Result<AskedStyle, Refusal>
-    requires { max ≤ 1024 }
-    ensures style { Judged result (narrow_style max style) }
-    ensures same { IfOk result (λ found. found ≡ style) }
-{
-    let targets = u32::from(style.shape.targets());
-    let width = u32::from(max) * targets;
-    if width > 16 || targets > 4 {
-        return Err(Refusal::TooWide(width));
-    }
-    Ok(style)
 }

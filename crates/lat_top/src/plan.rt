@@ -4,10 +4,10 @@ ghost use Rattle.lat_top.specs.Job.{Answers};
 ghost use Rattle.lat_top.specs.Script.{moment};
 ghost use Rattle.lat_top.specs.PlanJob.{plan_job};
 
-use crate::answer::planned;
-use crate::finding::{narrow_style, read_style};
+use crate::finding::read_style;
 use crate::output::Output;
 use crate::plan_words::PlanWords;
+use crate::planned::planned;
 use crate::refusal::Refusal;
 use lat_shelf::Shelf;
 use std::alloc::Global;
@@ -22,7 +22,6 @@ pub fn plan<H: Shelf>(
         Answers (plan_job (kept asked.now)) (seen shelf.old) (seen shelf.new) result }
 {
     let style = read_style(alloc, shelf, asked.definition, asked.style)?;
-    let style = narrow_style(style, asked.max)?;
-    let output = planned(alloc, asked, &style)?;
+    let output = planned(alloc, asked, style)?;
     Ok(output)
 }

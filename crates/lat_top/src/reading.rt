@@ -8,6 +8,9 @@ use std::alloc::Global;
 /// How many bytes a definition or a table may have.
 pub const FILE_LIMIT: u32 = 8_388_608;
 
+/// How many bytes a certificate may have.
+pub const CERT_LIMIT: u32 = 67_108_864;
+
 /// The bytes of a file, or the status with which the call ends where they can't be read. No file
 /// changes.
 pub fn read_file<H: Shelf>(

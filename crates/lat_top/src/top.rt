@@ -1,6 +1,6 @@
-ghost use Rattle.std.specs.Prelude.{◌≡◌, ◌≤◌, ◌↔◌, Ok, Err};
+ghost use Rattle.std.specs.Prelude.{◌≡◌, ◌≢◌, ◌≤◌, ◌↔◌, Ok, Err};
 ghost use Rattle.lat_top.specs.declared.word_fault.WordFault.{WordFault};
-ghost use Rattle.lat_top.specs.Words.{Asked, texts, asked_of};
+ghost use Rattle.lat_top.specs.Words.{Asked, PlansAll, Whole, texts, asked_of};
 ghost use Rattle.lat_top.specs.Asked.{asked_by};
 ghost use Rattle.lat_top.specs.Outside.{Untouched, outside};
 ghost use Rattle.lat_top.specs.Job.{Answers, Ends, Completes};
@@ -8,24 +8,35 @@ ghost use Rattle.lat_top.specs.Jobs.{job_of};
 ghost use Rattle.lat_top.specs.Script.{moment};
 
 use crate::Status;
+use crate::all::plan_all;
+use crate::check::check;
 use crate::command::Command;
+use crate::judging::judge_report;
+use crate::matching::match_style;
 use crate::output::Output;
 use crate::plan::plan;
 use crate::refusal::{Refusal, status_of};
+use crate::sampling::sample;
 use crate::verify::verify;
 use crate::words::read_words;
 use crate::write::write_output;
 use lat_shelf::{Shelf, Sink};
 use std::alloc::Global;
 
-// What a command answers.
+// What a command answers that puts no file before it has its answer.
 fn answer<H: Shelf>(alloc: Global, command: &Command<'_>, shelf: &mut H) -> Result<Output, Refusal>
+    requires { (asked : Whole) → asked_by command.now ≢ PlansAll asked }
     ensures { let seen = moment H.files H.faults in
         Answers (job_of (asked_by command.now)) (seen shelf.old) (seen shelf.new) result }
 {
     match command {
         Command::Plan(asked) => plan(alloc, asked, shelf),
         Command::Verify(asked) => verify(alloc, asked, shelf),
+        Command::Check(asked) => check(alloc, asked, shelf),
+        Command::Match(asked) => match_style(alloc, asked, shelf),
+        Command::Judge(asked) => judge_report(alloc, asked, shelf),
+        Command::Sample(asked) => sample(alloc, asked, shelf),
+        Command::All(_) => unreachable!(),
     }
 }
 
@@ -39,6 +50,9 @@ fn run_command<H: Shelf, K: Sink>(
     ensures { let seen = outside H.files H.faults K.given K.faults in
         Ends (job_of (asked_by command.now)) result (seen shelf.old out.old) (seen shelf.new out.new) }
 {
+    if let Command::All(asked) = command {
+        return plan_all(alloc, asked, shelf, out);
+    }
     match answer(alloc, command, shelf) {
         Ok(output) => write_output(shelf, out, &output),
         Err(refusal) => status_of(refusal),

@@ -1,4 +1,4 @@
-ghost use Rattle.std.specs.Prelude.{◌≡◌, ◌≤◌, [], length, IfOk};
+ghost use Rattle.std.specs.Prelude.{◌≡◌, ◌≤◌, [], length, IfOk, OnOk};
 ghost use Rattle.lat_base.specs.Names.{NamesFit};
 ghost use Rattle.lat_base.specs.Shape.{target_count};
 ghost use Rattle.lat_top.specs.Asked.{kept_verify};
@@ -6,7 +6,9 @@ ghost use Rattle.lat_top.specs.Job.{Answers};
 ghost use Rattle.lat_top.specs.Judged.{Judged};
 ghost use Rattle.lat_top.specs.Script.{Reads, moment};
 ghost use Rattle.lat_top.specs.VerifyJob.{verify_job, deck_in_file, attackable};
-ghost use Rattle.lat_top.specs.VerifyJob.{attack_status, table_deck, IsVerify};
+ghost use Rattle.lat_top.specs.VerifyJob.{attack_status, attack_files, table_deck};
+ghost use Rattle.lat_top.specs.VerifyJob.{AttackSpelled, IsVerify};
+ghost use Rattle.lat_top.specs.Writing.{entries};
 ghost use Rattle.lat_top.specs.Written.{texts_of};
 
 use crate::Status;
@@ -14,10 +16,12 @@ use crate::asked_style::AskedStyle;
 use crate::attackable::Attackable;
 use crate::finding::read_style;
 use crate::output::Output;
+use crate::put::Put;
 use crate::reading::{FILE_LIMIT, read_file};
 use crate::refusal::Refusal;
 use crate::verify_words::VerifyWords;
 use adversary::{Attacked, attack};
+use cert_format::write_evade;
 use deck_text::{CsvFail, read_deck_csv, verify_text};
 use lat_ballots::Deck;
 use lat_shelf::Shelf;
@@ -81,6 +85,37 @@ pub fn read_attackable<H: Shelf>(
     Ok(Attackable { style, deck })
 }
 
+// The file of an attack that was spent.
+fn attack_files(
+    alloc: Global,
+    name: &str,
+    inputs: &Attackable,
+    attack: &Attacked,
+) -> Result<Vec<Put>, AllocError>
+    requires fits { NamesFit inputs.now.style.names.contests inputs.now.style.shape }
+    requires targets { inputs.now.deck.targets ≡ target_count inputs.now.style.shape }
+    ensures puts { IfOk result (λ puts.
+        entries puts.items ≡ attack_files name.now inputs.now attack.now) }
+    ensures spelled { OnOk result (AttackSpelled inputs.now attack.now) }
+{
+    let mut puts = Vec::new(alloc);
+    let Attacked::Spent(tree) = attack else {
+        return Ok(puts);
+    };
+    let style = &inputs.style;
+    let bytes = write_evade(
+        alloc,
+        &style.names,
+        &style.shape,
+        &style.rules,
+        &inputs.deck,
+        tree,
+    )?;
+    let name = format!(in alloc; "{name}.open")?;
+    puts.push(Put { name, bytes })?;
+    Ok(puts)
+}
+
 // What `verify` writes for a deck.
 fn verified(
     alloc: Global,
@@ -105,7 +140,7 @@ fn verified(
     )?;
     Ok(Output {
         status: attack_status(deck.ballots(), &attack),
-        puts: Vec::new(alloc),
+        puts: attack_files(alloc, asked.deck, inputs, &attack)?,
         summary,
     })
 }

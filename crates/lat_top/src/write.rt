@@ -9,13 +9,14 @@ use crate::output::Output;
 use crate::put::Put;
 use lat_shelf::{OutFail, Shelf, Sink};
 
-// Puts files in order, up to the first that can't be put.
-fn put_all<H: Shelf>(shelf: &mut H, puts: &[Put]) -> Result<(), OutFail>
+/// Puts files in order, up to the first that can't be put.
+pub fn put_all<H: Shelf>(shelf: &mut H, puts: &[Put]) -> Result<(), OutFail>
     ensures ok { OnOk result
         (H.files shelf.new ≡ files_after (entries puts.now) (H.files shelf.old)) }
     ensures failed { IsErrOf result OutFail.Failed →
         FailedAt (entries puts.now) (H.files shelf.old) (H.files shelf.new) }
     ensures rose { IsErrOf result OutFail.Failed → Rose (H.faults shelf.old) (H.faults shelf.new) }
+    ensures faults { H.faults shelf.old ≤ H.faults shelf.new }
     ensures memory { IsErrOf result OutFail.Memory →
         StoppedAt (entries puts.now) (H.files shelf.old) (H.files shelf.new) }
 {

@@ -28,6 +28,3 @@ mod whole;
 pub use answer::Answer;
 pub use kept::Kept;
 pub use planning::plan;
-
-#[cfg(test)]
-mod tests;

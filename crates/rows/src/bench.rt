@@ -71,6 +71,34 @@ impl Bench {
         Ok(())
     }
 
+    // Prints the first bytes of a file.
+    fn front<R: Print>(&self, rt: &R, name: &str, count: &str) -> Result<()> {
+        let count = count.parse::<usize>().unwrap_or(0);
+        match self.shelf.file(name) {
+            None => println!(rt; "{name}: none")?,
+            Some(bytes) => {
+                println!(rt; "{name}: {count} bytes from the front")?;
+                print_bytes(rt, "|", bytes.get(..count).unwrap_or(bytes))?;
+            }
+        }
+        Ok(())
+    }
+
+    // Prints a line of a file, the first being line 1.
+    fn line<R: Print>(&self, rt: &R, name: &str, number: &str) -> Result<()> {
+        let number = number.parse::<usize>().unwrap_or(1);
+        match self.shelf.file(name) {
+            None => println!(rt; "{name}: none")?,
+            Some(bytes) => {
+                let text = str::from_utf8(bytes).unwrap_or("");
+                let line = text.lines().nth(number.saturating_sub(1)).unwrap_or("");
+                println!(rt; "{name}: line {number}")?;
+                println!(rt; "| {line}")?;
+            }
+        }
+        Ok(())
+    }
+
     // Adds the bytes of a file that lies beside the program.
     fn load<R: Files>(&mut self, rt: &R, name: &str) -> Result<()> {
         let mut files = FileShelf::new(rt);
@@ -129,6 +157,14 @@ impl Bench {
             "run" => self.run(rt, rest)?,
             "show" => self.show(rt, rest)?,
             "size" => self.size(rt, rest)?,
+            "front" => {
+                let (name, count) = rest.split_once(' ').unwrap_or((rest, "0"));
+                self.front(rt, name, count)?;
+            }
+            "line" => {
+                let (name, number) = rest.split_once(' ').unwrap_or((rest, "1"));
+                self.line(rt, name, number)?;
+            }
             _ => println!(rt; "{line}")?,
         }
         Ok(())

@@ -1,0 +1,4 @@
+pub mod Lowers
+pub mod RobustTrees
+pub mod Claims
+pub mod Faults

@@ -1,0 +1,10 @@
+mod Claims
+mod Decks
+mod Ends
+mod Forks
+mod Fronts
+mod Nodes
+mod Settled
+mod Sizes
+mod Trees
+mod Walked

@@ -1,0 +1,216 @@
+ghost use Rattle.std.specs.Prelude.{◌≡◌, ◌≤◌, ◌<◌, ◌+◌, [], true, false, Option, length, Err, IfOk};
+ghost use Rattle.lat_base.specs.Part.{IsPart};
+ghost use Rattle.lat_base.specs.Shape.{target_count};
+ghost use Rattle.cert_types.specs.declared.proved.Proved.{Proved};
+ghost use Rattle.cert_types.specs.Fitting.{IsVerdict};
+ghost use Rattle.cert_check.specs.Answers.{IsDeckAnswer};
+ghost use Rattle.cert_stream.specs.Phases.{IsPhase, IsEvadeCheck, IsDeckCheck, rank, waits};
+ghost use Rattle.cert_stream.specs.Stands.{Moves, Refuses, RobustSoFar, LowerSoFar, IsTail};
+
+use crate::front::Front;
+use crate::node::{node_of, wanted_behind};
+use crate::phase::{Phase, behind_front, behind_lower, behind_robust};
+use crate::reading::front_of;
+use crate::walk::{Checking, Walk, check_node};
+use cert_fields::{part_list_of, rows_of};
+use cert_types::{CertFault, Part};
+use close_rules::{Label, Reason};
+use deck_space::Decks;
+use deck_state::Partial;
+use evade_space::{Evade, EvadeState, Skipped};
+use lat_ballots::Deck;
+use lat_rules::obeys;
+use projection::part;
+use std::alloc::{AllocError, Global};
+use tree_core::Node;
+
+// Reads the front.
+fn read_front(alloc: Global, bytes: &[u8]) -> Result<(Phase, &[u8]), CertFault>
+    ensures phase { IfOk result (λ x. IsPhase x.0) }
+    ensures moves { IfOk result (λ x. Moves Phase.Start bytes.now x.0 x.1.now) }
+    ensures tail { IfOk result (λ x. IsTail bytes.now x.1.now) }
+    ensures shorter { IfOk result (λ x.
+        length x.1.now + rank x.0 < length bytes.now + rank Phase.Start) }
+    ensures refused { result ≡ Err CertFault.NotACertificate → Refuses Phase.Start bytes.now }
+{
+    let (front, rest) = front_of(alloc, bytes)?;
+    Ok((behind_front(front), rest))
+}
+
+// The check of a deck's tree of which no node was read; the deck itself is checked here.
+fn robust_check(
+    alloc: Global,
+    front: &Front,
+    deck: &Deck,
+) -> Result<Checking<Evade, EvadeState, u16, Skipped>, AllocError>
+    requires { deck.now.targets ≡ target_count front.now.shape }
+    ensures check { IfOk result (λ check. IsEvadeCheck check 1) }
+    ensures so_far { IfOk result (λ check.
+        RobustSoFar front.now.shape front.now.rules deck.now [] check) }
+{
+    if obeys(&front.shape, &front.rules, deck).is_err() {
+        return Ok(Checking::Off(Part::Rules, 0));
+    }
+    let space = Evade::own(alloc, &front.shape, deck)?;
+    let state = space.state(alloc)?;
+    Ok(Checking::On(Walk {
+        space,
+        state,
+        forks: Vec::new(alloc),
+        way: Vec::new(alloc),
+        seen: 0,
+    }))
+}
+
+// Reads the rows of a deck of `k` ballots.
+fn read_rows<'a>(
+    alloc: Global,
+    front: Front,
+    k: u16,
+    bytes: &'a [u8],
+) -> Result<(Phase, &'a [u8]), CertFault>
+    requires { IsPhase (Phase.Rows front k) }
+    ensures phase { IfOk result (λ x. IsPhase x.0) }
+    ensures moves { IfOk result (λ x. Moves (Phase.Rows front k) bytes.now x.0 x.1.now) }
+    ensures tail { IfOk result (λ x. IsTail bytes.now x.1.now) }
+    ensures shorter { IfOk result (λ x.
+        length x.1.now + rank x.0 < length bytes.now + rank (Phase.Rows front k)) }
+    ensures refused { result ≡ Err CertFault.NotACertificate →
+        Refuses (Phase.Rows front k) bytes.now }
+{
+    let _targets = front.shape.targets();
+    let (deck, rest) = rows_of(alloc, bytes, &front.shape, k)?;
+    let check = robust_check(alloc, &front, &deck)?;
+    Ok((Phase::Robust(front, 1, check), rest))
+}
+
+// Reads a node of the deck's tree.
+fn read_robust<'a>(
+    alloc: Global,
+    front: Front,
+    wanted: u64,
+    check: Checking<Evade, EvadeState, u16, Skipped>,
+    bytes: &'a [u8],
+) -> Result<(Phase, &'a [u8]), CertFault>
+    requires { IsPhase (Phase.Robust front wanted check) }
+    ensures phase { IfOk result (λ x. IsPhase x.0) }
+    ensures moves { IfOk result (λ x.
+        Moves (Phase.Robust front wanted check) bytes.now x.0 x.1.now) }
+    ensures tail { IfOk result (λ x. IsTail bytes.now x.1.now) }
+    ensures shorter { IfOk result (λ x.
+        length x.1.now + rank x.0 < length bytes.now + rank (Phase.Robust front wanted check)) }
+    ensures refused { result ≡ Err CertFault.NotACertificate →
+        Refuses (Phase.Robust front wanted check) bytes.now }
+{
+    let (node, rest): (Node<u16, Skipped>, &[u8]) = node_of(alloc, bytes)?;
+    let after = wanted_behind(wanted, &node)?;
+    let check = check_node(check, node, Part::Robust)?;
+    Ok((behind_robust(front, after, check), rest))
+}
+
+// The check of a lower part's tree of which no node was read.
+fn lower_check(
+    alloc: Global,
+    front: &Front,
+    chosen: &[u16],
+    size: u16,
+    fault: Option<(Part, u64)>,
+) -> Result<Checking<Decks, Partial, Label, Reason>, AllocError>
+    requires { size ≤ 1024 }
+    ensures check { IfOk result (λ check. IsDeckCheck check 1) }
+    ensures so_far { IfOk result (λ check. (proved : Option Proved) →
+        IsDeckAnswer front.now.shape front.now.rules proved fault →
+        LowerSoFar front.now.shape front.now.rules proved chosen.now size [] check) }
+{
+    if let Some((part, node)) = fault {
+        return Ok(Checking::Off(part, node));
+    }
+    match part(alloc, &front.shape, chosen) {
+        Ok(shape) => {
+            let state = Partial::open(alloc, &shape, &front.rules, size)?;
+            Ok(Checking::On(Walk {
+                space: Decks::new(),
+                state,
+                forks: Vec::new(alloc),
+                way: Vec::new(alloc),
+                seen: 0,
+            }))
+        }
+        // The list was tested as it was read, so there is no other fault than want of memory.
+        Err(_) => Err(AllocError),
+    }
+}
+
+// Reads the contests of a lower part of that size.
+fn read_contests<'a>(
+    alloc: Global,
+    front: Front,
+    size: u16,
+    fault: Option<(Part, u64)>,
+    bytes: &'a [u8],
+) -> Result<(Phase, &'a [u8]), CertFault>
+    requires { IsPhase (Phase.Contests front size fault) }
+    ensures phase { IfOk result (λ x. IsPhase x.0) }
+    ensures moves { IfOk result (λ x.
+        Moves (Phase.Contests front size fault) bytes.now x.0 x.1.now) }
+    ensures tail { IfOk result (λ x. IsTail bytes.now x.1.now) }
+    ensures shorter { IfOk result (λ x.
+        length x.1.now + rank x.0 < length bytes.now + rank (Phase.Contests front size fault)) }
+    ensures refused { result ≡ Err CertFault.NotACertificate →
+        Refuses (Phase.Contests front size fault) bytes.now }
+{
+    let contests = front.shape.contests();
+    let (chosen, rest) = part_list_of(alloc, bytes, contests)?;
+    let check = lower_check(alloc, &front, &chosen, size, fault)?;
+    Ok((Phase::Lower(front, 1, check), rest))
+}
+
+// Reads a node of the lower part's tree.
+fn read_lower<'a>(
+    alloc: Global,
+    front: Front,
+    wanted: u64,
+    check: Checking<Decks, Partial, Label, Reason>,
+    bytes: &'a [u8],
+) -> Result<(Phase, &'a [u8]), CertFault>
+    requires { IsPhase (Phase.Lower front wanted check) }
+    ensures phase { IfOk result (λ x. IsPhase x.0) }
+    ensures moves { IfOk result (λ x.
+        Moves (Phase.Lower front wanted check) bytes.now x.0 x.1.now) }
+    ensures tail { IfOk result (λ x. IsTail bytes.now x.1.now) }
+    ensures shorter { IfOk result (λ x.
+        length x.1.now + rank x.0 < length bytes.now + rank (Phase.Lower front wanted check)) }
+    ensures refused { result ≡ Err CertFault.NotACertificate →
+        Refuses (Phase.Lower front wanted check) bytes.now }
+{
+    let (node, rest): (Node<Label, Reason>, &[u8]) = node_of(alloc, bytes)?;
+    let after = wanted_behind(wanted, &node)?;
+    let check = check_node(check, node, Part::Lower)?;
+    Ok((behind_lower(front, after, check), rest))
+}
+
+/// Reads the field at the front, and gives the place behind it and the bytes there. Behind a whole
+/// certificate there is none.
+pub(crate) fn step<'a>(
+    alloc: Global,
+    phase: Phase,
+    bytes: &'a [u8],
+) -> Result<(Phase, &'a [u8]), CertFault>
+    requires phase { IsPhase phase }
+    requires some { waits phase (length bytes.now) true ≡ false }
+    ensures phase { IfOk result (λ x. IsPhase x.0) }
+    ensures moves { IfOk result (λ x. Moves phase bytes.now x.0 x.1.now) }
+    ensures tail { IfOk result (λ x. IsTail bytes.now x.1.now) }
+    ensures shorter { IfOk result (λ x.
+        length x.1.now + rank x.0 < length bytes.now + rank phase) }
+    ensures refused { result ≡ Err CertFault.NotACertificate → Refuses phase bytes.now }
+{
+    match phase {
+        Phase::Start => read_front(alloc, bytes),
+        Phase::Rows(front, k) => read_rows(alloc, front, k, bytes),
+        Phase::Robust(front, wanted, check) => read_robust(alloc, front, wanted, check, bytes),
+        Phase::Contests(front, size, fault) => read_contests(alloc, front, size, fault, bytes),
+        Phase::Lower(front, wanted, check) => read_lower(alloc, front, wanted, check, bytes),
+        Phase::Done(_front, _fault) => Err(CertFault::NotACertificate),
+    }
+}

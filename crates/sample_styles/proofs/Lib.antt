@@ -1,0 +1,3 @@
+pub mod SampleIds
+pub mod SampleShapes
+pub mod Drawn
