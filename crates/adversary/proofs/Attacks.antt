@@ -22,7 +22,8 @@ use Rattle.evade_space.specs.declared.skipped.Skipped.{Skipped}
 use Rattle.evade_space.proofs.Start.{nothing_at}
 
 -- an image without a source is an allowed label
-pub allowed_at : (sought : Sought) (s : PartialMisassignment) (u : ℕ) → is_free s.sources u ≡ true → (n : ℕ) × ((evade_steps sought).arity s u ≡ Some n)
+pub allowed_at : (sought : Sought) (s : PartialMisassignment) (u : ℕ) → is_free s.sources u ≡ true
+    → (n : ℕ) × ((evade_steps sought).arity s u ≡ Some n)
 allowed_at sought s u h = (length (kids_of sought s.sources u), ap (λ (b : Bool). if b then Some (length (kids_of sought s.sources u)) else None) h)
 
 -- two lists are equal or not
@@ -34,15 +35,21 @@ alike a b = by_test (bytes_eq a b) refl
     by_test false e = inr (λ same. cc ((bytes_eq-Decides a b).1 same, e))
 
 -- where nothing is found the deck is robust
-pub is_robust : (contests : List Contest) (deck : List (List Bool)) → ((v : List ℕ) → IsSolution (own_sought contests deck) (start (own_sought contests deck)) v → ⊥) → IsRobust contests deck
+pub is_robust : (contests : List Contest) (deck : List (List Bool))
+    → ((v : List ℕ) → IsSolution (own_sought contests deck) (start (own_sought contests deck)) v
+    → ⊥) → IsRobust contests deck
 is_robust contests deck none s is same = elim (alike s (identity (target_count contests))) [
   | inl e ↦ e
   | inr ne ↦ absurd (none s (record { is = is; extends = λ u t e. absurd (nothing_at (target_count contests) u t e); other = ne; report = same }))
 ]
 
 -- a tree of the deck's own space that checks
-pub closed : (contests : List Contest) (deck : List (List Bool)) (space : Sought) (state : PartialMisassignment) (tree : List (Node ℕ Skipped)) → space ≡ own_sought contests deck → state ≡ start space
-    → IsTree tree → Checks (evade_steps space) state (tree_of tree) → ((v : List ℕ) → IsSolution space state v → ⊥) → IsRobust contests deck × IsRobustTree contests deck tree
+pub closed : (contests : List Contest) (deck : List (List Bool)) (space : Sought)
+    (state : PartialMisassignment) (tree : List (Node ℕ Skipped)) → space ≡ own_sought contests deck
+    → state ≡ start space
+    → IsTree tree → Checks (evade_steps space) state (tree_of tree)
+    → ((v : List ℕ) → IsSolution space state v → ⊥)
+    → IsRobust contests deck × IsRobustTree contests deck tree
 closed contests deck space state tree is begins lists checks none =
     let at : state ≡ start (own_sought contests deck) = begins ∙ ap start is in (
       is_robust contests deck (λ v solved. none v (subst (λ (x : Sought). IsSolution x state v) (sym is) (subst (λ (y : PartialMisassignment). IsSolution (own_sought contests deck) y v) (sym at) solved))),
@@ -53,8 +60,11 @@ closed contests deck space state tree is begins lists checks none =
     )
 
 -- an open tree of the deck's own space, and what its nodes can't be as many as
-pub spent : (contests : List Contest) (deck : List (List Bool)) (space : Sought) (state : PartialMisassignment) (budget : ℕ) (tree : List (Node ℕ Skipped)) → space ≡ own_sought contests deck → state ≡ start space
-    → IsEvadeState space state → IsOpenTree (evade_steps space) state budget tree → IsOpenAttack contests deck budget tree × (budget < 3 * factorial (target_count contests))
+pub spent : (contests : List Contest) (deck : List (List Bool)) (space : Sought)
+    (state : PartialMisassignment) (budget : ℕ) (tree : List (Node ℕ Skipped))
+    → space ≡ own_sought contests deck → state ≡ start space
+    → IsEvadeState space state → IsOpenTree (evade_steps space) state budget tree
+    → IsOpenAttack contests deck budget tree × (budget < 3 * factorial (target_count contests))
 spent contests deck space state budget tree is begins own left_open =
     let at : state ≡ start (own_sought contests deck) = begins ∙ ap start is in
     let tree_is = subst (λ (y : PartialMisassignment). IsOpenTree (evade_steps (own_sought contests deck)) y budget tree) at (subst (λ (x : Sought). IsOpenTree (evade_steps x) state budget tree) is left_open) in
@@ -62,7 +72,9 @@ spent contests deck space state budget tree is begins own left_open =
     (tree_is, open_attack_few (own_sought contests deck) budget tree own_is tree_is)
 
 -- what is found in the deck's own space evades it
-pub found : (contests : List Contest) (deck : List (List Bool)) (space : Sought) (state : PartialMisassignment) (s v : List ℕ) → space ≡ own_sought contests deck → state ≡ start space
+pub found : (contests : List Contest) (deck : List (List Bool)) (space : Sought)
+    (state : PartialMisassignment) (s v : List ℕ) → space ≡ own_sought contests deck
+    → state ≡ start space
     → IsSolution space state v → s ≡ v → Evades contests deck s
 found contests deck space state s v is begins solved shown =
     let own = subst (λ (y : PartialMisassignment). IsSolution (own_sought contests deck) y v) (begins ∙ ap start is) (subst (λ (x : Sought). IsSolution x state v) is solved) in

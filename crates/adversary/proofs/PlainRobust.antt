@@ -28,7 +28,9 @@ use Rattle.evade_space.proofs.Start.{start_partly}
 use Rattle.adversary.proofs.Attacks.{is_robust}
 
 -- the space of a deck's own misassignments begins with one of its own states
-own_start : (contests : List Contest) (deck : List (List Bool)) → IsShape contests → Fits (target_count contests) deck → length deck ≤ 1024 → IsEvadeState (own_sought contests deck) (start (own_sought contests deck))
+own_start : (contests : List Contest) (deck : List (List Bool)) → IsShape contests
+    → Fits (target_count contests) deck → length deck ≤ 1024
+    → IsEvadeState (own_sought contests deck) (start (own_sought contests deck))
 own_start contests deck shape fits few = record {
   is_sought = record { shape = shape; fits = fits; few = few; wanted = report_long contests deck (identity (target_count contests)); skip = identity_is (target_count contests) };
   long = length-replicate {A = Option ℕ} (target_count contests) None;
@@ -49,11 +51,14 @@ pub nodes_long : (targets : ℕ) (r : Skipped) → length (plain_nodes targets r
 nodes_long targets r =
     omega (arith, length-append (map fork_on (range_with_len 0 targets)) (Close r ∷ []), length-map-range_with_len fork_on 0 targets)
 
-pub nodes_rise : (targets : ℕ) (r : Skipped) → take targets (plain_nodes targets r) ≡ map (λ u. Fork u 1) (range_with_len 0 targets)
+pub nodes_rise : (targets : ℕ) (r : Skipped)
+    → take targets (plain_nodes targets r) ≡ map (λ u. Fork u 1) (range_with_len 0 targets)
 nodes_rise targets r =
     ap (λ (n : ℕ). take n (plain_nodes targets r)) (sym (length-map-range_with_len fork_on 0 targets)) ∙ take-append_seam (map fork_on (range_with_len 0 targets)) (Close r ∷ [])
 
-pub plain_is_robust : (contests : List Contest) (rules : RuleSet) → IsShape contests → plain_size (target_count contests) rules ≤ 1024 → IsRobust contests (plain_ballots (target_count contests) rules).ballots
+pub plain_is_robust : (contests : List Contest) (rules : RuleSet) → IsShape contests
+    → plain_size (target_count contests) rules ≤ 1024
+    → IsRobust contests (plain_ballots (target_count contests) rules).ballots
 plain_is_robust contests rules shape few =
     let deck : List (List Bool) = (plain_ballots (target_count contests) rules).ballots in
     let sought = own_sought contests (plain_ballots (target_count contests) rules).ballots in

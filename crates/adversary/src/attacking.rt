@@ -25,9 +25,9 @@ pub enum Attacked {
     Spent(Tree<u16, Skipped>),
 }
 
-/// Searches for a misassignment, not the identity, that leaves every total of a deck as it is: first
-/// among the exchanges of two targets and of two whole contests, and then by a tree of at most
-/// `budget` Close and Fork nodes. Which one is found is left open. A budget of three times the
+/// Searches for a misassignment, not the identity, that leaves every total of a deck as it is:
+/// first among the exchanges of two targets and of two whole contests, and then by a tree of at
+/// most `budget` Close and Fork nodes. Which one is found is left open. A budget of three times the
 /// factorial of the number of targets is never spent. The only error is want of memory.
 pub fn attack(
     alloc: Global,

@@ -21,7 +21,8 @@ fn if_it_evades(
     requires sources { length s ≡ target_count shape.now }
     requires first { c < length shape.now }
     requires second { d < length shape.now }
-    ensures { (evader : List ℕ) → result ≡ Option.Some evader → Evades shape.now deck.now.ballots evader }
+    ensures { (evader : List ℕ) → result ≡ Option.Some evader
+        → Evades shape.now deck.now.ballots evader }
 {
     let keeps = keeps_totals(shape, deck, &s, c) && keeps_totals(shape, deck, &s, d);
     if keeps && !s.is_identity() && leaves_report(shape, deck, &s) {
@@ -73,8 +74,8 @@ fn is_overvoted(shape: &Shape, deck: &Deck, j: u16) -> bool
     false
 }
 
-// An exchange of target `u` with a later one that evades, where there is one. Their totals differ by
-// no more than the number of ballots that overvote a contest.
+// An exchange of target `u` with a later one that evades, where there is one. Their totals differ
+// by no more than the number of ballots that overvote a contest.
 #[tactic(auto, using(crate::proofs::Exchanged::targets_long))]
 fn exchange_of(
     alloc: Global,
@@ -85,7 +86,8 @@ fn exchange_of(
 ) -> Result<Option<Misassignment>, AllocError>
     requires deck { deck.now.targets ≡ target_count shape.now }
     requires target { u < target_count shape.now }
-    ensures { (s : List ℕ) → result ≡ Result.Ok (Option.Some s) → Evades shape.now deck.now.ballots s }
+    ensures { (s : List ℕ) → result ≡ Result.Ok (Option.Some s)
+        → Evades shape.now deck.now.ballots s }
 {
     let targets = shape.targets();
     let votes = total(shape, deck, u);
@@ -108,7 +110,8 @@ fn find_target_exchange(
     deck: &Deck,
 ) -> Result<Option<Misassignment>, AllocError>
     requires { deck.now.targets ≡ target_count shape.now }
-    ensures { (s : List ℕ) → result ≡ Result.Ok (Option.Some s) → Evades shape.now deck.now.ballots s }
+    ensures { (s : List ℕ) → result ≡ Result.Ok (Option.Some s)
+        → Evades shape.now deck.now.ballots s }
 {
     let overvoted = count_overvoted(shape, deck);
     for u in 0..shape.targets() {
@@ -131,7 +134,8 @@ fn contest_exchange_of(
 ) -> Result<Option<Misassignment>, AllocError>
     requires deck { deck.now.targets ≡ target_count shape.now }
     requires contest { d < length shape.now }
-    ensures { (s : List ℕ) → result ≡ Result.Ok (Option.Some s) → Evades shape.now deck.now.ballots s }
+    ensures { (s : List ℕ) → result ≡ Result.Ok (Option.Some s)
+        → Evades shape.now deck.now.ballots s }
 {
     for c in 0..d {
         if shape.contest(c) == shape.contest(d) {
@@ -152,7 +156,8 @@ fn find_contest_exchange(
     deck: &Deck,
 ) -> Result<Option<Misassignment>, AllocError>
     requires { deck.now.targets ≡ target_count shape.now }
-    ensures { (s : List ℕ) → result ≡ Result.Ok (Option.Some s) → Evades shape.now deck.now.ballots s }
+    ensures { (s : List ℕ) → result ≡ Result.Ok (Option.Some s)
+        → Evades shape.now deck.now.ballots s }
 {
     for d in 0..shape.contests() {
         let evader = contest_exchange_of(alloc, shape, deck, d)?;
@@ -170,7 +175,8 @@ pub fn find_exchange(
     deck: &Deck,
 ) -> Result<Option<Misassignment>, AllocError>
     requires { deck.now.targets ≡ target_count shape.now }
-    ensures { (s : List ℕ) → result ≡ Result.Ok (Option.Some s) → Evades shape.now deck.now.ballots s }
+    ensures { (s : List ℕ) → result ≡ Result.Ok (Option.Some s)
+        → Evades shape.now deck.now.ballots s }
 {
     let evader = find_target_exchange(alloc, shape, deck)?;
     if evader.is_some() {

@@ -1,4 +1,5 @@
-//! The attack on a deck: a misassignment that it lets pass, or a tree that shows that there is none.
+//! The attack on a deck: a misassignment that it lets pass, or a tree that shows that there is
+//! none.
 #![tactic(auto)]
 
 mod attacking;
@@ -10,6 +11,3 @@ mod plain;
 
 pub use attacking::{Attacked, attack};
 pub use plain::plain_robust;
-
-#[cfg(test)]
-mod tests;

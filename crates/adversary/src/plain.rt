@@ -10,18 +10,20 @@ use lat_base::{Rules, Shape};
 use std::alloc::{AllocError, Global};
 use tree_core::{Node, Tree};
 
-/// A tree that shows, without a search, that nothing evades the plain deck of a style: it forks on the
-/// images from the first one on, and each can have only itself as its source. A target with more ballots
-/// of its own gives too many sure votes, and one with fewer is used already. So the tree has a node for
-/// each target and one that closes. The only error is want of memory.
+/// A tree that shows, without a search, that nothing evades the plain deck of a style: it forks on
+/// the images from the first one on, and each can have only itself as its source. A target with
+/// more ballots of its own gives too many sure votes, and one with fewer is used already. So the
+/// tree has a node for each target and one that closes. The only error is want of memory.
 pub fn plain_robust(
     alloc: Global,
     shape: &Shape,
     rules: &Rules,
 ) -> Result<Tree<u16, Skipped>, AllocError>
     requires { plain_size (target_count shape.now) rules.now ≤ 1024 }
-    ensures tree { IfOk result (IsRobustTree shape.now (plain_ballots (target_count shape.now) rules.now).ballots) }
-    ensures rising { IfOk result (λ tree. take (target_count shape.now) tree ≡ map (λ u. Node.Fork u 1) (range_with_len 0 (target_count shape.now))) }
+    ensures tree { IfOk result (IsRobustTree shape.now
+        (plain_ballots (target_count shape.now) rules.now).ballots) }
+    ensures rising { IfOk result (λ tree. take (target_count shape.now) tree
+        ≡ map (λ u. Node.Fork u 1) (range_with_len 0 (target_count shape.now))) }
     ensures nodes { IfOk result (λ tree. length tree ≡ target_count shape.now + 1) }
 
     // The plain deck is robust.

@@ -34,7 +34,8 @@ no_place_fault n i least (c ∷ chosen) up =
     let second : nat_lt c least ≡ false = grind (arith, nat_tests, low) in
     neither _ _ (place_fault n (i + 1) (c + 1) chosen) (nat_le n c) (nat_lt c least) first second (no_place_fault n (i + 1) (c + 1) chosen up.2)
   where
-    neither : {A : Type 0} (p q : A) (rest : Option A) (x y : Bool) → x ≡ false → y ≡ false → rest ≡ None → cond x (Some p) (cond y (Some q) rest) ≡ None
+    neither : {A : Type 0} (p q : A) (rest : Option A) (x y : Bool) → x ≡ false → y ≡ false
+        → rest ≡ None → cond x (Some p) (cond y (Some q) rest) ≡ None
     neither p q rest true y e f h = cc
     neither p q rest false true e f h = cc
     neither p q rest false false e f h = h
@@ -47,7 +48,8 @@ no_part_fault contests chosen is =
     let first : (length chosen == 0) ≡ false = grind (arith, nat_tests, some) in
     alone _ (place_fault (length contests) 0 0 chosen) (length chosen == 0) first (no_place_fault (length contests) 0 0 chosen (part_rises contests chosen is))
   where
-    alone : {A : Type 0} (p : A) (rest : Option A) (x : Bool) → x ≡ false → rest ≡ None → cond x (Some p) rest ≡ None
+    alone : {A : Type 0} (p : A) (rest : Option A) (x : Bool) → x ≡ false → rest ≡ None
+        → cond x (Some p) rest ≡ None
     alone p rest true e h = cc
     alone p rest false e h = h
 

@@ -25,7 +25,8 @@ alike a b = by_test (bytes_eq a b) refl
 
 -- where nothing evades a deck, it is robust
 is_robust : (contests : List Contest) (deck : List (List Bool))
-    → ((v : List ℕ) → IsSolution (own_sought contests deck) (start (own_sought contests deck)) v → ⊥)
+    → ((v : List ℕ) → IsSolution (own_sought contests deck) (start (own_sought contests deck)) v
+    → ⊥)
     → IsRobust contests deck
 is_robust contests deck none s is same = elim (alike s (identity (target_count contests))) [
   | inl e ↦ e

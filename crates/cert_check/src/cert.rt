@@ -10,10 +10,11 @@ use cert_types::{Cert, Checked};
 use std::alloc::{AllocError, Global};
 
 /// Whether a certificate holds, with its own verdict, or its first fault. Where there is a deck it
-/// must obey the rules (else `Rules`, 0) and its tree must show that it is robust (else `Robust` and
-/// the first node that doesn't hold); where there is a lower part its tree must show that no deck of
-/// the part of its size is good (else `Lower` and the node). A yes implies what the certificate
-/// claims, whoever made it, and that its deck is good. The only error is want of memory.
+/// must obey the rules (else `Rules`, 0) and its tree must show that it is robust (else `Robust`
+/// and the first node that doesn't hold); where there is a lower part its tree must show that no
+/// deck of the part of its size is good (else `Lower` and the node). A yes implies what the
+/// certificate claims, whoever made it, and that its deck is good. The only error is want of
+/// memory.
 pub fn check_cert(alloc: Global, cert: &Cert) -> Result<Checked, AllocError>
     ensures exact { IfOk result (IsChecked cert.now) }
     ensures claim { (verdict : Verdict) → result ≡ Ok (Checked.Yes verdict) →

@@ -25,7 +25,8 @@ fn licensed(alloc: Global, license: &[u8]) -> Result<Option<(Part, u64)>, Fail> 
     checked(alloc, rest.as_slice())
 }
 
-// A best deck with its tree, a lower part of one ballot whose tree is open, and an open node as license.
+// A best deck with its tree, a lower part of one ballot whose tree is open, and an open node as
+// license.
 #[test]
 fn the_first_fault_of_the_parts(rt: HostRuntime) -> Result<(), Fail> {
     let alloc = rt.alloc();

@@ -13,7 +13,8 @@ use Rattle.cert_fields.specs.Reading.{◌>>=◌, Gives, u8_at, u16_at, pair_at, 
 use Rattle.cert_fields.specs.Exact.{Exact}
 
 -- the value of a step that gave one
-pub step : {A B : Type 0} (o : Option A) (f : A → Option B) (y : B) → (o >>= f) ≡ Some y → (x : A) × (o ≡ Some x) × (f x ≡ Some y)
+pub step : {A B : Type 0} (o : Option A) (f : A → Option B) (y : B) → (o >>= f) ≡ Some y
+    → (x : A) × (o ≡ Some x) × (f x ≡ Some y)
 step None f y e = absurd cc
 step (Some x) f y e = (x, refl, e)
 
@@ -27,7 +28,8 @@ u8_exact = record {
   again = λ v rest _. refl;
 }
   where
-    u8_takes : (bytes : List ℕ) (v : ℕ) (rest : List ℕ) → u8_at bytes ≡ Some (v, rest) → Unit {0} × (bytes ≡ (v ∷ []) ++ rest)
+    u8_takes : (bytes : List ℕ) (v : ℕ) (rest : List ℕ) → u8_at bytes ≡ Some (v, rest)
+        → Unit {0} × (bytes ≡ (v ∷ []) ++ rest)
     u8_takes [] v rest e = absurd cc
     u8_takes (b ∷ bytes) v rest e = let p = some_pair_parts b v bytes rest e in (tt, cc)
 
@@ -37,7 +39,8 @@ u16_exact = record {
   again = λ v rest _. let t : ltb (v % 256) 256 ≡ true = lt-ltb _ _ (omega arith) in rw t (ap (λ (n : ℕ). Some (n, rest)) (omega arith));
 }
   where
-    u16_takes : (bytes : List ℕ) (v : ℕ) (rest : List ℕ) → u16_at bytes ≡ Some (v, rest) → Unit {0} × (bytes ≡ u16_text v ++ rest)
+    u16_takes : (bytes : List ℕ) (v : ℕ) (rest : List ℕ) → u16_at bytes ≡ Some (v, rest)
+        → Unit {0} × (bytes ≡ u16_text v ++ rest)
     u16_takes [] v rest e = absurd cc
     u16_takes (b ∷ []) v rest e = absurd cc
     u16_takes (b ∷ c ∷ bytes) v rest e =
@@ -49,8 +52,11 @@ u16_exact = record {
         let others : bytes ≡ rest = ap (λ (x : ℕ × List ℕ). x.1) s.1 in
         (tt, rw (high, low) (ap (λ (r : List ℕ). b ∷ c ∷ r) others))
 
-pub pair_exact : {A B : Type 0} (first : List ℕ → Option (A × List ℕ)) (second : A → List ℕ → Option (B × List ℕ)) (F : A → Type 0) (G : A → B → Type 0) (t : A → List ℕ) (u : A → B → List ℕ)
-    → Exact first F t → ((a : A) → Exact (second a) (G a) (u a)) → Exact (pair_at first second) (λ p. F p.0 × G p.0 p.1) (λ p. t p.0 ++ u p.0 p.1)
+pub pair_exact : {A B : Type 0} (first : List ℕ → Option (A × List ℕ))
+    (second : A → List ℕ → Option (B × List ℕ)) (F : A → Type 0) (G : A → B → Type 0)
+    (t : A → List ℕ) (u : A → B → List ℕ)
+    → Exact first F t → ((a : A) → Exact (second a) (G a) (u a))
+    → Exact (pair_at first second) (λ p. F p.0 × G p.0 p.1) (λ p. t p.0 ++ u p.0 p.1)
 pair_exact {A} {B} first second F G t u x y = record {
   takes = λ bytes v rest e.
       let p = step (first bytes) (λ a. second a.0 a.1 >>= λ b. Some ((a.0, b.0), b.1)) (v, rest) e in
@@ -64,7 +70,8 @@ pair_exact {A} {B} first second F G t u x y = record {
 }
 
 -- a test of the value that was read
-pub tested_exact : {A : Type 0} (test : A → Bool) (field : List ℕ → Option (A × List ℕ)) (F : A → Type 0) (t : A → List ℕ)
+pub tested_exact : {A : Type 0} (test : A → Bool) (field : List ℕ → Option (A × List ℕ))
+    (F : A → Type 0) (t : A → List ℕ)
     → Exact field F t → Exact (tested_at test field) (λ a. F a × (test a ≡ true)) t
 tested_exact {A} test field F t x = record {
   takes = λ bytes v rest e.
@@ -76,8 +83,10 @@ tested_exact {A} test field F t x = record {
 }
 
 -- a value made of the one that was read, and taken apart again
-pub made_exact : {A B : Type 0} (make : A → B) (parts : B → A) (field : List ℕ → Option (A × List ℕ)) (F : A → Type 0) (t : A → List ℕ)
-    → ((a : A) → parts (make a) ≡ a) → ((b : B) → make (parts b) ≡ b) → Exact field F t → Exact (made_at make field) (λ b. F (parts b)) (λ b. t (parts b))
+pub made_exact : {A B : Type 0} (make : A → B) (parts : B → A)
+    (field : List ℕ → Option (A × List ℕ)) (F : A → Type 0) (t : A → List ℕ)
+    → ((a : A) → parts (make a) ≡ a) → ((b : B) → make (parts b) ≡ b) → Exact field F t
+    → Exact (made_at make field) (λ b. F (parts b)) (λ b. t (parts b))
 made_exact {A} {B} make parts field F t back forth x = record {
   takes = λ bytes v rest e.
       let p = step (field bytes) (λ a. Some (make a.0, a.1)) (v, rest) e in
@@ -90,11 +99,15 @@ made_exact {A} {B} make parts field F t back forth x = record {
 }
 
 -- so many fields, one after the other
-pub many_exact : {A : Type 0} (field : List ℕ → Option (A × List ℕ)) (F : A → Type 0) (t : A → List ℕ)
-    → Exact field F t → (n : ℕ) → Exact (many_at field n) (λ xs. (length xs ≡ n) × AllByRecursion F xs) (flat_map t)
+pub many_exact : {A : Type 0} (field : List ℕ → Option (A × List ℕ)) (F : A → Type 0)
+    (t : A → List ℕ)
+    → Exact field F t → (n : ℕ) → Exact (many_at field n)
+    (λ xs. (length xs ≡ n) × AllByRecursion F xs) (flat_map t)
 many_exact {A} field F t x n = record { takes = many_takes n; again = many_again n }
   where
-    many_takes : (n : ℕ) (bytes : List ℕ) (v : List A) (rest : List ℕ) → many_at field n bytes ≡ Some (v, rest) → ((length v ≡ n) × AllByRecursion F v) × (bytes ≡ flat_map t v ++ rest)
+    many_takes : (n : ℕ) (bytes : List ℕ) (v : List A) (rest : List ℕ)
+        → many_at field n bytes ≡ Some (v, rest)
+        → ((length v ≡ n) × AllByRecursion F v) × (bytes ≡ flat_map t v ++ rest)
     many_takes zero bytes v rest e =
         subst (λ (w : List A × List ℕ). ((length w.0 ≡ 0) × AllByRecursion F w.0) × (bytes ≡ flat_map t w.0 ++ w.1)) (same_Some ([], bytes) (v, rest) e) ((refl, tt), refl)
     many_takes (suc n) bytes v rest e =
@@ -105,7 +118,8 @@ many_exact {A} field F t x n = record { takes = many_takes n; again = many_again
         subst (λ (w : List A × List ℕ). ((length w.0 ≡ suc n) × AllByRecursion F w.0) × (bytes ≡ flat_map t w.0 ++ w.1)) (same_Some (p.0.0 ∷ q.0.0, q.0.1) (v, rest) q.2)
         ((ap suc k.0.0, (h.0, k.0.1)), h.1 ∙ ap (λ (r : List ℕ). t p.0.0 ++ r) k.1 ∙ rw flat_map-cons (sym (append_assoc (t p.0.0) (flat_map t q.0.0) q.0.1)))
 
-    many_again : (n : ℕ) (v : List A) (rest : List ℕ) → (length v ≡ n) × AllByRecursion F v → many_at field n (flat_map t v ++ rest) ≡ Some (v, rest)
+    many_again : (n : ℕ) (v : List A) (rest : List ℕ) → (length v ≡ n) × AllByRecursion F v
+        → many_at field n (flat_map t v ++ rest) ≡ Some (v, rest)
     many_again zero [] rest fits = refl
     many_again zero (a ∷ v) rest fits = absurd (omega (arith, fits.0))
     many_again (suc n) [] rest fits = absurd (omega (arith, fits.0))
@@ -124,7 +138,8 @@ bytes_exact n = record {
       rw (long, take_at v rest n fits, drop_at v rest n fits) refl;
 }
   where
-    enough : {A : Type 0} (b : Bool) (x y : A) → cond b None (Some x) ≡ Some y → (b ≡ false) × (x ≡ y)
+    enough : {A : Type 0} (b : Bool) (x y : A) → cond b None (Some x) ≡ Some y
+        → (b ≡ false) × (x ≡ y)
     enough true x y e = absurd cc
     enough false x y e = (refl, cc)
 
@@ -132,8 +147,10 @@ pub two_exact : Exact two_at (λ p. Unit {0} × Unit {0}) (λ p. u16_text p.0 ++
 two_exact = pair_exact u16_at (λ _. u16_at) AnyOf (λ _ _. Unit {0}) u16_text (λ _. u16_text) u16_exact (λ _. u16_exact)
 
 -- a field that another description fits too
-pub same_exact : {V : Type 0} (read : List ℕ → Option (V × List ℕ)) (F G : V → Type 0) (t u : V → List ℕ)
-    → ((v : V) → F v → G v × (t v ≡ u v)) → ((v : V) → G v → F v × (t v ≡ u v)) → Exact read F t → Exact read G u
+pub same_exact : {V : Type 0} (read : List ℕ → Option (V × List ℕ)) (F G : V → Type 0)
+    (t u : V → List ℕ)
+    → ((v : V) → F v → G v × (t v ≡ u v)) → ((v : V) → G v → F v × (t v ≡ u v)) → Exact read F t
+    → Exact read G u
 same_exact read F G t u there back x = record {
   takes = λ bytes v rest e. let h = x.takes bytes v rest e in let k = there v h.0 in (k.0, h.1 ∙ ap (λ (r : List ℕ). r ++ rest) k.1);
   again = λ v rest g. let k = back v g in ap (λ (r : List ℕ). read (r ++ rest)) (sym k.1) ∙ x.again v rest k.0;
@@ -151,8 +168,10 @@ id_exact = record {
 }
 
 -- a value that was read, and how long its spelling is
-pub begins : {V : Type 0} {read : List ℕ → Option (V × List ℕ)} {F : V → Type 0} {t : V → List ℕ} → Exact read F t
-    → (bytes : List ℕ) (v : V) (rest : List ℕ) → read bytes ≡ Some (v, rest) → Begins F t bytes v (length bytes - length rest)
+pub begins : {V : Type 0} {read : List ℕ → Option (V × List ℕ)} {F : V → Type 0} {t : V → List ℕ}
+    → Exact read F t
+    → (bytes : List ℕ) (v : V) (rest : List ℕ) → read bytes ≡ Some (v, rest)
+    → Begins F t bytes v (length bytes - length rest)
 begins {V} {read} {F} {t} x bytes v rest e =
     let h = x.takes bytes v rest e in
     let long : length bytes ≡ length (t v) + length rest = ap length h.1 ∙ length-append (t v) rest in
@@ -164,24 +183,30 @@ begins {V} {read} {F} {t} x bytes v rest e =
     }
 
 -- what a field's reader refuses begins with no spelling
-pub begins_none : {V : Type 0} {read : List ℕ → Option (V × List ℕ)} {F : V → Type 0} {t : V → List ℕ} → Exact read F t
+pub begins_none : {V : Type 0} {read : List ℕ → Option (V × List ℕ)} {F : V → Type 0}
+    {t : V → List ℕ} → Exact read F t
     → (bytes : List ℕ) → read bytes ≡ None → (v : V) (n : ℕ) → Begins F t bytes v n → ⊥
 begins_none {V} {read} {F} {t} x bytes e v n b =
     let parts : t v ++ drop n bytes ≡ bytes = ap (λ (r : List ℕ). r ++ drop n bytes) (sym b.spelled) ∙ take-append-drop n bytes in
     none-some (v, drop n bytes) (sym e ∙ ap read (sym parts) ∙ x.again v (drop n bytes) b.fits)
 
 -- what a field's reader fails with
-pub begins_err : {X V : Type 0} (view : X → V × List ℕ) (read : List ℕ → Option (V × List ℕ)) (F : V → Type 0) (t : V → List ℕ) → Exact read F t
+pub begins_err : {X V : Type 0} (view : X → V × List ℕ) (read : List ℕ → Option (V × List ℕ))
+    (F : V → Type 0) (t : V → List ℕ) → Exact read F t
     → (bytes : List ℕ) (e : CertFault) → Gives view (Err e) (read bytes) → Takes F t (Err e) bytes
 begins_err view read F t x bytes NotACertificate h = begins_none x bytes h
 begins_err view read F t x bytes Memory h = tt
 
 -- a value takes no more bytes than there are
-pub no_longer : {V : Type 0} {read : List ℕ → Option (V × List ℕ)} {F : V → Type 0} {t : V → List ℕ} → Exact read F t
-    → (bytes : List ℕ) (v : V) (rest : List ℕ) → read bytes ≡ Some (v, rest) → length rest ≤ length bytes
+pub no_longer : {V : Type 0} {read : List ℕ → Option (V × List ℕ)} {F : V → Type 0} {t : V → List ℕ}
+    → Exact read F t
+    → (bytes : List ℕ) (v : V) (rest : List ℕ) → read bytes ≡ Some (v, rest)
+    → length rest ≤ length bytes
 no_longer {V} {read} {F} {t} x bytes v rest e = omega (arith, ap length (x.takes bytes v rest e).1, length-append (t v) rest)
 
 -- where two spellings begin the same bytes, they are one
-pub one_spelling : {V : Type 0} {read : List ℕ → Option (V × List ℕ)} {F : V → Type 0} {t : V → List ℕ} → Exact read F t
-    → (v w : V) (more others : List ℕ) → F v → F w → t v ++ more ≡ t w ++ others → (v ≡ w) × (more ≡ others)
+pub one_spelling : {V : Type 0} {read : List ℕ → Option (V × List ℕ)} {F : V → Type 0}
+    {t : V → List ℕ} → Exact read F t
+    → (v w : V) (more others : List ℕ) → F v → F w → t v ++ more ≡ t w ++ others
+    → (v ≡ w) × (more ≡ others)
 one_spelling {V} {read} {F} {t} x v w more others f g e = some_pair_parts v w more others (sym (x.again v more f) ∙ ap read e ∙ x.again w others g)

@@ -29,10 +29,13 @@ abbrev two_text : ℕ × ℕ → List ℕ
 two_text p = u16_text p.0 ++ u16_text p.1
 
 -- a field behind a tag
-pub tagged_exact : {V : Type 0} (by : ℕ → List ℕ → Option (V × List ℕ)) (read : List ℕ → Option (V × List ℕ)) (F : V → Type 0) (t : V → List ℕ)
+pub tagged_exact : {V : Type 0} (by : ℕ → List ℕ → Option (V × List ℕ))
+    (read : List ℕ → Option (V × List ℕ)) (F : V → Type 0) (t : V → List ℕ)
     → ((bytes : List ℕ) → read bytes ≡ (u8_at bytes >>= λ tag. by tag.0 tag.1))
-    → ((tag : ℕ) (bytes : List ℕ) (v : V) (rest : List ℕ) → by tag bytes ≡ Some (v, rest) → F v × (tag ∷ bytes ≡ t v ++ rest))
-    → ((v : V) (rest : List ℕ) → F v → (u8_at (t v ++ rest) >>= λ tag. by tag.0 tag.1) ≡ Some (v, rest)) → Exact read F t
+    → ((tag : ℕ) (bytes : List ℕ) (v : V) (rest : List ℕ) → by tag bytes ≡ Some (v, rest)
+    → F v × (tag ∷ bytes ≡ t v ++ rest))
+    → ((v : V) (rest : List ℕ) → F v
+    → (u8_at (t v ++ rest) >>= λ tag. by tag.0 tag.1) ≡ Some (v, rest)) → Exact read F t
 tagged_exact by read F t is takes again = record {
   takes = λ bytes v rest e.
       let p = step (u8_at bytes) (λ tag. by tag.0 tag.1) (v, rest) (sym (is bytes) ∙ e) in
@@ -46,17 +49,20 @@ pub label_exact : Exact label_at AnyLabel label_text
 unfolding label_at
 label_exact = tagged_exact label_by label_at AnyLabel label_text (λ _. refl) takes again
   where
-    takes : (tag : ℕ) (bytes : List ℕ) (v : Label) (rest : List ℕ) → label_by tag bytes ≡ Some (v, rest) → AnyLabel v × (tag ∷ bytes ≡ label_text v ++ rest)
+    takes : (tag : ℕ) (bytes : List ℕ) (v : Label) (rest : List ℕ)
+        → label_by tag bytes ≡ Some (v, rest) → AnyLabel v × (tag ∷ bytes ≡ label_text v ++ rest)
     takes tag bytes v rest =
         one_tag AnyLabel label_text tag bytes v rest 1 (λ (p : ℕ × ℕ). Mark p.0 p.1) two_at Both two_text two_exact (λ _ _. (tt, refl)) _ (
         one_tag AnyLabel label_text tag bytes v rest 2 (λ (p : ℕ × ℕ). Split p.0 p.1) two_at Both two_text two_exact (λ _ _. (tt, refl)) _ (
         no_tag AnyLabel label_text tag bytes v rest))
 
-    again : (v : Label) (rest : List ℕ) → AnyLabel v → (u8_at (label_text v ++ rest) >>= λ tag. label_by tag.0 tag.1) ≡ Some (v, rest)
+    again : (v : Label) (rest : List ℕ) → AnyLabel v
+        → (u8_at (label_text v ++ rest) >>= λ tag. label_by tag.0 tag.1) ≡ Some (v, rest)
     again (Mark j t) rest _ = made_again (λ (p : ℕ × ℕ). Mark p.0 p.1) two_at Both two_text two_exact (j, t) rest (tt, tt)
     again (Split t x) rest _ = made_again (λ (p : ℕ × ℕ). Split p.0 p.1) two_at Both two_text two_exact (t, x) rest (tt, tt)
 
-guard_some : {A : Type 0} (b : Bool) (x : Option A) (y : A) → cond b x None ≡ Some y → (b ≡ true) × (x ≡ Some y)
+guard_some : {A : Type 0} (b : Bool) (x : Option A) (y : A) → cond b x None ≡ Some y
+    → (b ≡ true) × (x ≡ Some y)
 guard_some true x y e = (refl, e)
 guard_some false x y e = absurd (none-some y e)
 
@@ -74,7 +80,8 @@ unfaulty s = is_none (source_fault s)
 abbrev AreSo : ℕ → List ℕ → Type 0
 AreSo n s = ((length s ≡ n) × AllByRecursion (AnyOf {V = ℕ}) s) × (unfaulty s ≡ true)
 
-numbers_exact : (n : ℕ) → Exact (tested_at unfaulty (many_at u16_at n)) (AreSo n) (flat_map u16_text)
+numbers_exact : (n : ℕ) → Exact (tested_at unfaulty (many_at u16_at n)) (AreSo n)
+    (flat_map u16_text)
 numbers_exact n = tested_exact unfaulty (many_at u16_at n) (λ s. (length s ≡ n) × AllByRecursion (AnyOf {V = ℕ}) s) (flat_map u16_text) (many_exact u16_at AnyOf u16_text u16_exact n)
 
 abbrev pub sources_text : List ℕ → List ℕ
@@ -104,7 +111,8 @@ pub reason_exact : Exact reason_at IsReason reason_text
 unfolding reason_at
 reason_exact = tagged_exact reason_by reason_at IsReason reason_text (λ _. refl) takes again
   where
-    takes : (tag : ℕ) (bytes : List ℕ) (v : Reason) (rest : List ℕ) → reason_by tag bytes ≡ Some (v, rest) → IsReason v × (tag ∷ bytes ≡ reason_text v ++ rest)
+    takes : (tag : ℕ) (bytes : List ℕ) (v : Reason) (rest : List ℕ)
+        → reason_by tag bytes ≡ Some (v, rest) → IsReason v × (tag ∷ bytes ≡ reason_text v ++ rest)
     takes tag bytes v rest =
         one_tag IsReason reason_text tag bytes v rest 1 Order u16_at AnyOf u16_text u16_exact (λ _ _. (tt, refl)) _ (
         one_tag IsReason reason_text tag bytes v rest 2 Totals u16_at AnyOf u16_text u16_exact (λ _ _. (tt, refl)) _ (
@@ -119,7 +127,8 @@ reason_exact = tagged_exact reason_by reason_at IsReason reason_text (λ _. refl
         one_tag IsReason reason_text tag bytes v rest 11 Evade sources_at AreSources sources_text sources_exact (λ _ f. (f, refl)) _ (
         no_tag IsReason reason_text tag bytes v rest)))))))))))
 
-    again : (v : Reason) (rest : List ℕ) → IsReason v → (u8_at (reason_text v ++ rest) >>= λ tag. reason_by tag.0 tag.1) ≡ Some (v, rest)
+    again : (v : Reason) (rest : List ℕ) → IsReason v
+        → (u8_at (reason_text v ++ rest) >>= λ tag. reason_by tag.0 tag.1) ≡ Some (v, rest)
     again (Order j) rest _ = made_again Order u16_at AnyOf u16_text u16_exact j rest tt
     again (Totals c) rest _ = made_again Totals u16_at AnyOf u16_text u16_exact c rest tt
     again (Capacity c) rest _ = made_again Capacity u16_at AnyOf u16_text u16_exact c rest tt

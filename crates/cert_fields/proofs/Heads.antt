@@ -26,8 +26,10 @@ use Rattle.cert_fields.proofs.Exact.{step, AnyOf, u8_exact, u16_exact, two_exact
 use Rattle.cert_fields.specs.Head.{Head, contest_text, contests_text, rules_text, head_text, IsNamed, AreNamed, IsHead, contest_at, contests_at, flag_at, rules_at, style_at, head_at}
 use Rattle.cert_fields.proofs.Contests.{never_true}
 
-pub made_by : {A V : Type 0} (make : A → V) (field : List ℕ → Option (A × List ℕ)) (F : A → Type 0) (t : A → List ℕ) (G : V → Type 0) (u : V → List ℕ)
-    → Exact field F t → ((a : A) → F a → G (make a) × (u (make a) ≡ t a)) → ((v : V) → G v → (a : A) × (make a ≡ v) × F a × (u v ≡ t a)) → Exact (made_at make field) G u
+pub made_by : {A V : Type 0} (make : A → V) (field : List ℕ → Option (A × List ℕ)) (F : A → Type 0)
+    (t : A → List ℕ) (G : V → Type 0) (u : V → List ℕ)
+    → Exact field F t → ((a : A) → F a → G (make a) × (u (make a) ≡ t a))
+    → ((v : V) → G v → (a : A) × (make a ≡ v) × F a × (u v ≡ t a)) → Exact (made_at make field) G u
 made_by {A} {V} make field F t G u x there back = record {
   takes = λ bytes v rest e.
       let p = step (field bytes) (λ a. Some (make a.0, a.1)) (v, rest) e in
@@ -47,7 +49,10 @@ Ids n ids = (length ids ≡ n) × AllByRecursion IsText ids
 abbrev Raw : Type 0
 Raw = (List ℕ × ℕ) × (ℕ × List (List ℕ))
 
-raw_exact : Exact (pair_at (pair_at id_at (λ _. u16_at)) (λ _. pair_at u16_at (λ n. many_at id_at n))) (λ (p : Raw). (IsText p.0.0 × Unit {0}) × (Unit {0} × Ids p.1.0 p.1.1)) (λ (p : Raw). (id_text p.0.0 ++ u16_text p.0.1) ++ (u16_text p.1.0 ++ flat_map id_text p.1.1))
+raw_exact : Exact (pair_at (pair_at id_at (λ _. u16_at))
+    (λ _. pair_at u16_at (λ n. many_at id_at n)))
+    (λ (p : Raw). (IsText p.0.0 × Unit {0}) × (Unit {0} × Ids p.1.0 p.1.1))
+    (λ (p : Raw). (id_text p.0.0 ++ u16_text p.0.1) ++ (u16_text p.1.0 ++ flat_map id_text p.1.1))
 raw_exact = pair_exact (pair_at id_at (λ _. u16_at)) (λ _. pair_at u16_at (λ n. many_at id_at n)) (λ p. IsText p.0 × Unit {0}) (λ _ p. Unit {0} × Ids p.0 p.1) (λ p. id_text p.0 ++ u16_text p.1) (λ _ p. u16_text p.0 ++ flat_map id_text p.1)
     (pair_exact id_at (λ _. u16_at) IsText (λ _ _. Unit {0}) id_text (λ _. u16_text) id_exact (λ _. u16_exact))
     (λ _. pair_exact u16_at (λ n. many_at id_at n) AnyOf Ids u16_text (λ _. flat_map id_text) u16_exact (λ n. many_exact id_at IsText id_text id_exact n))
@@ -63,7 +68,8 @@ contest_exact =
 
 -- ---- names that don't repeat
 
-list_any-append : (p : List ℕ → Bool) (xs ys : List (List ℕ)) → list_any p (xs ++ ys) ≡ false → (list_any p xs ≡ false) × (list_any p ys ≡ false)
+list_any-append : (p : List ℕ → Bool) (xs ys : List (List ℕ)) → list_any p (xs ++ ys) ≡ false
+    → (list_any p xs ≡ false) × (list_any p ys ≡ false)
 list_any-append p [] ys e = (refl, e)
 list_any-append p (x ∷ xs) ys e = let o = or_parts (p x) (list_any p (xs ++ ys)) e in let k = list_any-append p xs ys o.1 in (or_from _ _ o.0 k.0, k.1)
 
@@ -76,7 +82,8 @@ is_true xs ys e = grind (arith, bytes_eq-Decides)
 bytes_eq-sym : (x y : List ℕ) → bytes_eq x y ≡ false → bytes_eq y x ≡ false
 bytes_eq-sym x y e = never_true (bytes_eq y x) (λ t. let s : y ≡ x = is_same y x t in false≢true (sym e ∙ is_true x y (sym s)))
 
-not-before : (ids : List (List ℕ)) (id : List ℕ) (others : List (List ℕ)) → has_twice (ids ++ id ∷ others) ≡ false → list_any (bytes_eq id) ids ≡ false
+not-before : (ids : List (List ℕ)) (id : List ℕ) (others : List (List ℕ))
+    → has_twice (ids ++ id ∷ others) ≡ false → list_any (bytes_eq id) ids ≡ false
 not-before [] id others e = refl
 not-before (x ∷ ids) id others e =
     let o = or_parts (list_any (bytes_eq x) (ids ++ id ∷ others)) (has_twice (ids ++ id ∷ others)) e in
@@ -84,12 +91,14 @@ not-before (x ∷ ids) id others e =
     let here = or_parts (bytes_eq x id) (list_any (bytes_eq x) others) k.1 in
     or_from _ _ (bytes_eq-sym x id here.0) (not-before ids id others o.1)
 
-any-ids : (id : List ℕ) (ns : List ContestNames) → list_any (λ c. bytes_eq id c.id) ns ≡ list_any (bytes_eq id) (contest_ids ns)
+any-ids : (id : List ℕ) (ns : List ContestNames)
+    → list_any (λ c. bytes_eq id c.id) ns ≡ list_any (bytes_eq id) (contest_ids ns)
 any-ids id [] = refl
 any-ids id (n ∷ ns) = ap (λ (b : Bool). bytes_eq id n.id || b) (any-ids id ns)
 
 -- a contest's names stand once among names that don't repeat
-once : (ns ms : List ContestNames) (n : ContestNames) → AreNames (ns ++ n ∷ ms) → is_repeated ns n.id n.targets ≡ false
+once : (ns ms : List ContestNames) (n : ContestNames) → AreNames (ns ++ n ∷ ms)
+    → is_repeated ns n.id n.targets ≡ false
 once ns ms n names =
     let ids : has_twice (contest_ids ns ++ n.id ∷ contest_ids ms) ≡ false = ap has_twice (sym (map-append (λ (c : ContestNames). c.id) ns (n ∷ ms))) ∙ names.ids in
     let place : length ns < length (ns ++ n ∷ ms) = omega (arith, length-append ns (n ∷ ms)) in
@@ -108,11 +117,14 @@ record Taken (ns : List ContestNames) (cs : List Contest) (k : ℕ) (bytes rest 
   named : AreNamed more others
   spelled : bytes ≡ contests_text more others ++ rest
 
-guard_else : {A : Type 0} (b : Bool) (x : Option A) (y : A) → cond b None x ≡ Some y → (b ≡ false) × (x ≡ Some y)
+guard_else : {A : Type 0} (b : Bool) (x : Option A) (y : A) → cond b None x ≡ Some y
+    → (b ≡ false) × (x ≡ Some y)
 guard_else true x y e = absurd (none-some y e)
 guard_else false x y e = (refl, e)
 
-contests_take : (k : ℕ) (ns : List ContestNames) (cs : List Contest) (bytes : List ℕ) (v : List ContestNames × List Contest) (rest : List ℕ) → AreNames ns → contests_at k ns cs bytes ≡ Some (v, rest) → Taken ns cs k bytes rest v
+contests_take : (k : ℕ) (ns : List ContestNames) (cs : List Contest) (bytes : List ℕ)
+    (v : List ContestNames × List Contest) (rest : List ℕ) → AreNames ns
+    → contests_at k ns cs bytes ≡ Some (v, rest) → Taken ns cs k bytes rest v
 contests_take zero ns cs bytes v rest u e =
     subst (λ (w : (List ContestNames × List Contest) × List ℕ). Taken ns cs 0 bytes w.1 w.0) (same_Some ((ns, cs), bytes) (v, rest) e)
     (record { more = []; others = []; names = sym (append-nil ns); contests = sym (append-nil cs); unique = u; many = refl; named = tt; spelled = refl })
@@ -134,8 +146,10 @@ contests_take (suc k) ns cs bytes v rest u e =
       spelled = h.1 ∙ ap (λ (x : List ℕ). contest_text n d ++ x) r.spelled ∙ sym (append_assoc (contest_text n d) (contests_text r.more r.others) rest);
     }
 
-contests_again : (ms : List ContestNames) (ds : List Contest) (ns : List ContestNames) (cs : List Contest) (rest : List ℕ) → AreNames (ns ++ ms) → AreNamed ms ds
-    → contests_at (length ds) ns cs (contests_text ms ds ++ rest) ≡ Some ((ns ++ ms, cs ++ ds), rest)
+contests_again : (ms : List ContestNames) (ds : List Contest) (ns : List ContestNames)
+    (cs : List Contest) (rest : List ℕ) → AreNames (ns ++ ms) → AreNamed ms ds
+    → contests_at (length ds) ns cs (contests_text ms ds ++ rest)
+    ≡ Some ((ns ++ ms, cs ++ ds), rest)
 contests_again [] [] ns cs rest u f = ap (λ (x : List ContestNames). Some ((x, cs), rest)) (sym (append-nil ns)) ∙ ap (λ (x : List Contest). Some ((ns ++ [], x), rest)) (sym (append-nil cs))
 contests_again [] (d ∷ ds) ns cs rest u f = absurd f
 contests_again (m ∷ ms) [] ns cs rest u f = absurd f
@@ -159,7 +173,8 @@ flag_exact =
     flag-is (suc zero) h = refl
     flag-is (suc (suc n)) h = absurd (omega arith)
 
-    flag-back : (d : Bool) → Unit {0} → (n : ℕ) × ((n == 1) ≡ d) × (Unit {0} × (nat_le n 1 ≡ true)) × (cond d 1 0 ∷ [] ≡ n ∷ [])
+    flag-back : (d : Bool) → Unit {0}
+        → (n : ℕ) × ((n == 1) ≡ d) × (Unit {0} × (nat_le n 1 ≡ true)) × (cond d 1 0 ∷ [] ≡ n ∷ [])
     flag-back true _ = (1, refl, (tt, refl), refl)
     flag-back false _ = (0, refl, (tt, refl), refl)
 
@@ -188,7 +203,8 @@ no-shape-fault : (o : Option ShapeFault) → is_none o ≡ true → o ≡ None
 no-shape-fault None e = refl
 no-shape-fault (Some f) e = absurd (cc)
 
-pub guard_then : {A : Type 0} (b : Bool) (x y : A) → cond b (Some x) None ≡ Some y → (b ≡ true) × (x ≡ y)
+pub guard_then : {A : Type 0} (b : Bool) (x y : A) → cond b (Some x) None ≡ Some y
+    → (b ≡ true) × (x ≡ y)
 guard_then true x y e = (refl, same_Some x y e)
 guard_then false x y e = absurd (none-some y e)
 

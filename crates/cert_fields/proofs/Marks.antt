@@ -61,7 +61,8 @@ marks_back v = ext_get_or false (marks_of (length v) (row_text v)) v (length-map
         let parts : 8 * (t / 8) + t % 8 ≡ t = omega arith in
         ap (λ (b : ℕ). eqb (bit_at b (7 - t % 8)) 1) byte ∙ bit_is v (8 * (t / 8)) (t % 8) (omega arith) ∙ ap (λ (i : ℕ). get_or v i false) parts
 
-    each : (t : ℕ) → t < length (marks_of (length v) (row_text v)) → get_or (marks_of (length v) (row_text v)) t false ≡ get_or v t false
+    each : (t : ℕ) → t < length (marks_of (length v) (row_text v))
+        → get_or (marks_of (length v) (row_text v)) t false ≡ get_or v t false
     each t h =
         let lt : t < length v = subst (λ (n : ℕ). t < n) (length-map-range_with_len (is_bit (row_text v)) 0 (length v)) h in
         get_or-map-range_with_len (is_bit (row_text v)) 0 (length v) t t false lt (omega arith) ∙ at_place t lt
@@ -92,12 +93,14 @@ row_exact targets = record {
       ∙ ap (λ (m : List Bool). Some (m, rest)) marks;
 }
   where
-    read : Exact (tested_at (is_written targets) (bytes_at (row_size targets))) (λ b. (length b ≡ row_size targets) × (is_written targets b ≡ true)) (λ b. b)
+    read : Exact (tested_at (is_written targets) (bytes_at (row_size targets)))
+        (λ b. (length b ≡ row_size targets) × (is_written targets b ≡ true)) (λ b. b)
     read = tested_exact (is_written targets) (bytes_at (row_size targets)) (λ b. length b ≡ row_size targets) (λ b. b) (bytes_exact (row_size targets))
 
 -- one more mark set, from the left
 pub set_mark_more : (marks old : List Bool) (t : ℕ) → t < length marks → length old ≡ length marks
-    → set (take t marks ++ drop t old) t (get_or marks t false) ≡ take (t + 1) marks ++ drop (t + 1) old
+    → set (take t marks ++ drop t old) t (get_or marks t false) ≡ take (t + 1) marks
+    ++ drop (t + 1) old
 set_mark_more marks old t h e =
     let l : t < length old = omega arith in
     let long : length (take t marks) ≡ t = omega (arith, length-take t marks) in
@@ -107,8 +110,10 @@ set_mark_more marks old t h e =
     ∙ rw (next, take-suc marks t false h) (sym (append_assoc (take t marks) (get_or marks t false ∷ []) (drop (suc t) old)))
 
 -- the marks set so far, in the deck
-pub deck_mark_more : (ballots : List (List Bool)) (j : ℕ) (marks old : List Bool) (t : ℕ) → j < length ballots → t < length marks → length old ≡ length marks
-    → set (set ballots j (take t marks ++ drop t old)) j (set (get_or (set ballots j (take t marks ++ drop t old)) j []) t (get_or marks t false))
+pub deck_mark_more : (ballots : List (List Bool)) (j : ℕ) (marks old : List Bool) (t : ℕ)
+    → j < length ballots → t < length marks → length old ≡ length marks
+    → set (set ballots j (take t marks ++ drop t old)) j
+    (set (get_or (set ballots j (take t marks ++ drop t old)) j []) t (get_or marks t false))
     ≡ set ballots j (take (t + 1) marks ++ drop (t + 1) old)
 deck_mark_more ballots j marks old t within h e =
     set-set ballots j (take t marks ++ drop t old) _
@@ -116,24 +121,29 @@ deck_mark_more ballots j marks old t within h e =
     ∙ ap (set ballots j) (set_mark_more marks old t h e)
 
 -- all marks set
-pub set_mark_all : (marks old : List Bool) (t : ℕ) → length marks ≤ t → length old ≤ t → take t marks ++ drop t old ≡ marks
+pub set_mark_all : (marks old : List Bool) (t : ℕ) → length marks ≤ t → length old ≤ t
+    → take t marks ++ drop t old ≡ marks
 set_mark_all marks old t h e =
     let none : drop t old ≡ [] = nil_from_length (drop t old) (omega (arith, length-drop t old)) in
     rw (take_all t marks h, none) (append-nil marks)
 
-pub row_byte : (v : List Bool) (i : ℕ) → i < row_size (length v) → get_or (row_text v) i 0 ≡ byte_text v (8 * i)
+pub row_byte : (v : List Bool) (i : ℕ) → i < row_size (length v)
+    → get_or (row_text v) i 0 ≡ byte_text v (8 * i)
 row_byte v i h = get_or-map-range_with_len (λ i. byte_text v (8 * i)) 0 (row_size (length v)) i i 0 h (omega arith)
 
 -- bytes that are each the row's are the row
-pub row_from_bytes : (v : List Bool) (bytes : List ℕ) → length bytes ≡ row_size (length v) → ((k : ℕ) → k < length bytes → byte_text v (8 * k) ≡ get_or bytes k 0) → row_text v ≡ bytes
+pub row_from_bytes : (v : List Bool) (bytes : List ℕ) → length bytes ≡ row_size (length v)
+    → ((k : ℕ) → k < length bytes → byte_text v (8 * k) ≡ get_or bytes k 0) → row_text v ≡ bytes
 row_from_bytes v bytes long each =
     ext_get_or 0 (row_text v) bytes (row_long v ∙ sym long) (λ i h.
     let lt : i < row_size (length v) = subst (λ (n : ℕ). i < n) (row_long v) h in
     row_byte v i lt ∙ each i (omega arith))
 
 -- one more byte of a row
-pub bytes_more : (front bytes : List ℕ) (v : List Bool) (i : ℕ) → bytes ≡ front ++ map (λ k. byte_text v (8 * k)) (range_with_len 0 i)
-    → bytes ++ byte_text v (8 * i) ∷ [] ≡ front ++ map (λ k. byte_text v (8 * k)) (range_with_len 0 (i + 1))
+pub bytes_more : (front bytes : List ℕ) (v : List Bool) (i : ℕ)
+    → bytes ≡ front ++ map (λ k. byte_text v (8 * k)) (range_with_len 0 i)
+    → bytes ++ byte_text v (8 * i) ∷ [] ≡ front
+    ++ map (λ k. byte_text v (8 * k)) (range_with_len 0 (i + 1))
 bytes_more front bytes v i e =
     rw (e, map-range_with_len_more (λ k. byte_text v (8 * k)) 0 i i (omega arith)) (append_assoc front (map (λ k. byte_text v (8 * k)) (range_with_len 0 i)) (byte_text v (8 * i) ∷ []))
 
@@ -152,15 +162,20 @@ deck_exact targets k = record {
       ∙ ap (λ (t : ℕ). Some (record { targets = t; ballots = v.ballots }, rest)) (sym fits.width);
 }
   where
-    rows : Exact (many_at (row_at targets) k) (λ vs. (length vs ≡ k) × AllByRecursion (λ v. length v ≡ targets) vs) (flat_map row_text)
+    rows : Exact (many_at (row_at targets) k)
+        (λ vs. (length vs ≡ k) × AllByRecursion (λ v. length v ≡ targets) vs) (flat_map row_text)
     rows = many_exact (row_at targets) (λ v. length v ≡ targets) row_text (row_exact targets) k
 
 -- the deck, by its ballots and its number of targets
-pub deck_read : (targets k : ℕ) (bytes : List ℕ) (deck : Ballots) (rest : List ℕ) → rows_at targets k bytes ≡ Some (deck.ballots, rest) → deck.targets ≡ targets → deck_at targets k bytes ≡ Some (deck, rest)
+pub deck_read : (targets k : ℕ) (bytes : List ℕ) (deck : Ballots) (rest : List ℕ)
+    → rows_at targets k bytes ≡ Some (deck.ballots, rest) → deck.targets ≡ targets
+    → deck_at targets k bytes ≡ Some (deck, rest)
 deck_read targets k bytes deck rest e t =
     ap (λ (o : Option (List (List Bool) × List ℕ)). o >>= λ b. Some (record { targets = targets; ballots = b.0 }, b.1)) e
     ∙ ap (λ (n : ℕ). Some (record { targets = n; ballots = deck.ballots }, rest)) (sym t)
 
-pub deck_fault : {X : Type 0} (targets k : ℕ) (bytes : List ℕ) (view : X → List (List Bool) × List ℕ) (views : X → Ballots × List ℕ) (e : CertFault) → Gives view (Err e) (rows_at targets k bytes) → Gives views (Err e) (deck_at targets k bytes)
+pub deck_fault : {X : Type 0} (targets k : ℕ) (bytes : List ℕ)
+    (view : X → List (List Bool) × List ℕ) (views : X → Ballots × List ℕ) (e : CertFault)
+    → Gives view (Err e) (rows_at targets k bytes) → Gives views (Err e) (deck_at targets k bytes)
 deck_fault targets k bytes view views NotACertificate h = rw h refl
 deck_fault targets k bytes view views Memory h = tt

@@ -28,6 +28,7 @@ part_test_exact count = record {
     numbers : (n : ℕ) → Exact (tested_at (is_part count) (many_at u16_at n)) (λ cs. ((length cs ≡ n) × AllByRecursion (AnyOf {V = ℕ}) cs) × (is_part count cs ≡ true)) (flat_map u16_text)
     numbers n = tested_exact (is_part count) (many_at u16_at n) (λ cs. (length cs ≡ n) × AllByRecursion (AnyOf {V = ℕ}) cs) (flat_map u16_text) (many_exact u16_at AnyOf u16_text u16_exact n)
 
-pub part_exact : (contests : List Contest) → Exact (part_at (length contests)) (IsPart contests) part_text
+pub part_exact : (contests : List Contest)
+    → Exact (part_at (length contests)) (IsPart contests) part_text
 part_exact contests = same_exact (part_at (length contests)) (λ cs. is_part (length contests) cs ≡ true) (IsPart contests) part_text part_text
     (λ cs h. (is_part_sound contests cs h, refl)) (λ cs h. (is_part_complete contests cs h, refl)) (part_test_exact (length contests))

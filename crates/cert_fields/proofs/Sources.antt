@@ -8,7 +8,8 @@ use Rattle.lat_misassign.specs.declared.fault.MisFault.{MisFault}
 use Rattle.lat_misassign.specs.SourceFault.{source_fault}
 use Rattle.lat_misassign.proofs.Valid.{faulty}
 
-by_fault : (s : List ℕ) (o : Option MisFault) → source_fault s ≡ o → IsMisassignment (length s) s → is_none o ≡ true
+by_fault : (s : List ℕ) (o : Option MisFault) → source_fault s ≡ o → IsMisassignment (length s) s
+    → is_none o ≡ true
 by_fault s None e h = refl
 by_fault s (Some f) e h = absurd (faulty s f e h)
 
@@ -17,10 +18,13 @@ pub sound : (s : List ℕ) → IsMisassignment (length s) s → is_none (source_
 sound s h = by_fault s (source_fault s) refl h
 
 -- a list with a fault is refused
-pub faulty_none : (s : List ℕ) (f : MisFault) → source_fault s ≡ Some f → is_none (source_fault s) ≡ false
+pub faulty_none : (s : List ℕ) (f : MisFault) → source_fault s ≡ Some f
+    → is_none (source_fault s) ≡ false
 faulty_none s f e = rw e refl
 
 -- what is read, by the steps of the reader
-pub sources_read : (bytes : List ℕ) (n : ℕ) (rest s more : List ℕ) (b : Bool) → u16_at bytes ≡ Some (n, rest) → is_count n ≡ true
-    → many_at u16_at n rest ≡ Some (s, more) → is_none (source_fault s) ≡ b → sources_at bytes ≡ cond b (Some (s, more)) None
+pub sources_read : (bytes : List ℕ) (n : ℕ) (rest s more : List ℕ) (b : Bool)
+    → u16_at bytes ≡ Some (n, rest) → is_count n ≡ true
+    → many_at u16_at n rest ≡ Some (s, more) → is_none (source_fault s) ≡ b
+    → sources_at bytes ≡ cond b (Some (s, more)) None
 sources_read bytes n rest s more b e k m f = rw (e, k, m, f) refl

@@ -7,7 +7,8 @@ use crate::{CertFault, Spelt, u8_of, u16_of};
 use std::alloc::{AllocError, Global};
 use tree_core::Node;
 
-fn kids_of<B, R>(node: &Node<B, R>) -> u16
+/// How many kids a node says that it has; none where it isn't a fork.
+pub fn kids_of<B, R>(node: &Node<B, R>) -> u16
     ensures { result ≡ kids_of node.now }
 {
     match node {

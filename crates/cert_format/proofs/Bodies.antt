@@ -53,14 +53,17 @@ verdict_exact : Exact verdict_at IsVerdict verdict_text
 unfolding verdict_at
 verdict_exact = tagged_exact verdict_by verdict_at IsVerdict verdict_text (λ _. refl) takes again
   where
-    takes : (tag : ℕ) (bytes : List ℕ) (v : Verdict) (rest : List ℕ) → verdict_by tag bytes ≡ Some (v, rest) → IsVerdict v × (tag ∷ bytes ≡ verdict_text v ++ rest)
+    takes : (tag : ℕ) (bytes : List ℕ) (v : Verdict) (rest : List ℕ)
+        → verdict_by tag bytes ≡ Some (v, rest)
+        → IsVerdict v × (tag ∷ bytes ≡ verdict_text v ++ rest)
     takes tag bytes v rest =
         one_tag IsVerdict verdict_text tag bytes v rest 1 Least (limited_at 0 1024) (Limited 0 1024) u16_text (limited_exact 0 1024) (λ n f. ((limits 0 1024 n f.1).1, refl)) _ (
         one_tag IsVerdict verdict_text tag bytes v rest 2 NoneWithin (limited_at 1 1024) (Limited 1 1024) u16_text (limited_exact 1 1024) (λ n f. let l = limits 1 1024 n f.1 in ((l.0, l.1), refl)) _ (
         one_tag IsVerdict verdict_text tag bytes v rest 3 Bounds (limited_at 0 1024) (Limited 0 1024) u16_text (limited_exact 0 1024) (λ n f. ((limits 0 1024 n f.1).1, refl)) _ (
         no_tag IsVerdict verdict_text tag bytes v rest)))
 
-    again : (v : Verdict) (rest : List ℕ) → IsVerdict v → (u8_at (verdict_text v ++ rest) >>= λ tag. verdict_by tag.0 tag.1) ≡ Some (v, rest)
+    again : (v : Verdict) (rest : List ℕ) → IsVerdict v
+        → (u8_at (verdict_text v ++ rest) >>= λ tag. verdict_by tag.0 tag.1) ≡ Some (v, rest)
     again (Least n) rest f = made_again Least (limited_at 0 1024) (Limited 0 1024) u16_text (limited_exact 0 1024) n rest (tt, within 0 1024 n (omega arith) f)
     again (NoneWithin n) rest f = made_again NoneWithin (limited_at 1 1024) (Limited 1 1024) u16_text (limited_exact 1 1024) n rest (tt, within 1 1024 n f.0 f.1)
     again (Bounds n) rest f = made_again Bounds (limited_at 0 1024) (Limited 0 1024) u16_text (limited_exact 0 1024) n rest (tt, within 0 1024 n (omega arith) f)
@@ -73,7 +76,8 @@ evade_text = tree_text u16_text skipped_text
 evade_exact : Exact (tree_at u16_at skipped_at) (IsTreeOf AnyImage AnySkipped) evade_text
 evade_exact = tree_exact u16_at AnyImage u16_text skipped_at AnySkipped skipped_text u16_exact skipped_exact
 
-deck_tree_exact : Exact (tree_at label_at reason_at) (IsTreeOf AnyLabel IsReason) (tree_text label_text reason_text)
+deck_tree_exact : Exact (tree_at label_at reason_at) (IsTreeOf AnyLabel IsReason)
+    (tree_text label_text reason_text)
 deck_tree_exact = tree_exact label_at AnyLabel label_text reason_at IsReason reason_text label_exact reason_exact
 
 abbrev Rows : ℕ → ℕ → List (List Bool) → Type 0
@@ -82,7 +86,8 @@ Rows targets k vs = (length vs ≡ k) × AllByRecursion (λ v. length v ≡ targ
 abbrev pub AttackedFits : ℕ → ℕ → Ballots × List (Node ℕ Skipped) → Type 0
 AttackedFits targets k v = IsDeckOf targets k v.0 × IsTreeOf AnyImage AnySkipped v.1
 
-attacked_exact : (targets k : ℕ) → Exact (attacked_at targets k) (AttackedFits targets k) (λ v. attacked_text v.0 v.1)
+attacked_exact : (targets k : ℕ)
+    → Exact (attacked_at targets k) (AttackedFits targets k) (λ v. attacked_text v.0 v.1)
 attacked_exact targets k =
     made_by (λ (p : List (List Bool) × List (Node ℕ Skipped)). (record { targets = targets; ballots = p.0 }, p.1)) (pair_at (rows_at targets k) (λ _. tree_at u16_at skipped_at))
     (λ p. Rows targets k p.0 × IsTreeOf AnyImage AnySkipped p.1) (λ p. rows_text p.0 ++ evade_text p.1) (AttackedFits targets k) (λ v. attacked_text v.0 v.1)
@@ -120,17 +125,21 @@ best_exact : (targets : ℕ) → Exact (best_at targets) (BestDeckFits targets) 
 unfolding best_at
 best_exact targets = tagged_exact (best_by targets) (best_at targets) (BestDeckFits targets) best_text (λ _. refl) takes again
   where
-    takes : (tag : ℕ) (bytes : List ℕ) (v : Option Proved) (rest : List ℕ) → best_by targets tag bytes ≡ Some (v, rest) → BestDeckFits targets v × (tag ∷ bytes ≡ best_text v ++ rest)
+    takes : (tag : ℕ) (bytes : List ℕ) (v : Option Proved) (rest : List ℕ)
+        → best_by targets tag bytes ≡ Some (v, rest)
+        → BestDeckFits targets v × (tag ∷ bytes ≡ best_text v ++ rest)
     takes tag bytes v rest =
         one_tag (BestDeckFits targets) best_text tag bytes v rest 0 (λ _. None) nothing_at Always nothing nothing_exact (λ _ _. (tt, refl)) _ (
         one_tag (BestDeckFits targets) best_text tag bytes v rest 1 Some (sized_at targets) (SizedFits targets) sized_text (sized_exact targets) (λ p g. (g, refl)) _ (
         no_tag (BestDeckFits targets) best_text tag bytes v rest))
 
-    again : (v : Option Proved) (rest : List ℕ) → BestDeckFits targets v → (u8_at (best_text v ++ rest) >>= λ tag. best_by targets tag.0 tag.1) ≡ Some (v, rest)
+    again : (v : Option Proved) (rest : List ℕ) → BestDeckFits targets v
+        → (u8_at (best_text v ++ rest) >>= λ tag. best_by targets tag.0 tag.1) ≡ Some (v, rest)
     again None rest g = refl
     again (Some p) rest g = made_again Some (sized_at targets) (SizedFits targets) sized_text (sized_exact targets) p rest g
 
-none_exact : {V : Type 0} (G : Option V → Type 0) (u : Option V → List ℕ) → G None → ((v : V) → G (Some v) → ⊥) → u None ≡ [] → Exact (λ bytes. Some (None, bytes)) G u
+none_exact : {V : Type 0} (G : Option V → Type 0) (u : Option V → List ℕ) → G None
+    → ((v : V) → G (Some v) → ⊥) → u None ≡ [] → Exact (λ bytes. Some (None, bytes)) G u
 none_exact {V} G u g never e = record {
   takes = λ bytes v rest h. subst (λ (w : Option V × List ℕ). G w.0 × (bytes ≡ u w.0 ++ w.1)) (same_Some (None, bytes) (v, rest) h) (g, ap (λ (r : List ℕ). r ++ bytes) (sym e));
   again = back;
@@ -140,8 +149,11 @@ none_exact {V} G u g never e = record {
     back None rest h = ap (λ (r : List ℕ). Some (None, r ++ rest)) e
     back (Some v) rest h = absurd (never v h)
 
-some_exact : {V : Type 0} (field : List ℕ → Option (V × List ℕ)) (F : V → Type 0) (t : V → List ℕ) (G : Option V → Type 0) (u : Option V → List ℕ)
-    → Exact field F t → ((v : V) → F v → G (Some v) × (u (Some v) ≡ t v)) → ((v : V) → G (Some v) → F v × (u (Some v) ≡ t v)) → (G None → ⊥) → Exact (made_at Some field) G u
+some_exact : {V : Type 0} (field : List ℕ → Option (V × List ℕ)) (F : V → Type 0) (t : V → List ℕ)
+    (G : Option V → Type 0) (u : Option V → List ℕ)
+    → Exact field F t → ((v : V) → F v → G (Some v) × (u (Some v) ≡ t v))
+    → ((v : V) → G (Some v) → F v × (u (Some v) ≡ t v)) → (G None → ⊥)
+    → Exact (made_at Some field) G u
 some_exact {V} field F t G u x there back never = made_by Some field F t G u x there from
   where
     from : (v : Option V) → G v → (a : V) × (Some a ≡ v) × F a × (u v ≡ t a)
@@ -154,7 +166,8 @@ DeckPartFits targets (NoneWithin m) None = Unit {0}
 DeckPartFits targets (Bounds f) best = BestDeckFits targets best
 DeckPartFits targets verdict proved = ⊥
 
-deck_part_exact : (targets : ℕ) (v : Verdict) → Exact (deck_part_at targets v) (DeckPartFits targets v) (deck_part_text v)
+deck_part_exact : (targets : ℕ) (v : Verdict)
+    → Exact (deck_part_at targets v) (DeckPartFits targets v) (deck_part_text v)
 unfolding deck_part_at
 deck_part_exact targets (Least k) = some_exact (proved_at targets k) (ProvedFits targets k) proved_text (DeckPartFits targets (Least k)) (deck_part_text (Least k)) (proved_exact targets k) (λ v f. (f, refl)) (λ v g. (g, refl)) (λ g. g)
 deck_part_exact targets (NoneWithin m) = none_exact (DeckPartFits targets (NoneWithin m)) (deck_part_text (NoneWithin m)) tt (λ v g. g) refl
@@ -165,7 +178,8 @@ deck_part_exact targets (Bounds f) = best_exact targets
 abbrev pub LowerOneFits : List Contest → ℕ → LowerPart → Type 0
 LowerOneFits contests size l = (IsPart contests l.contests × (l.size ≡ size)) × IsLowerField l
 
-lower_exact : (contests : List Contest) (size : ℕ) → Exact (lower_at contests size) (LowerOneFits contests size) lower_text
+lower_exact : (contests : List Contest) (size : ℕ)
+    → Exact (lower_at contests size) (LowerOneFits contests size) lower_text
 unfolding lower_at
 lower_exact contests size =
     made_by (λ (p : List ℕ × List (Node Label Reason)). record { contests = p.0; size = size; tree = p.1 }) (pair_at (part_at (length contests)) (λ _. tree_at label_at reason_at))
@@ -179,7 +193,8 @@ LowerPartFits contests None None = Unit {0}
 LowerPartFits contests (Some size) (Some l) = LowerOneFits contests size l
 LowerPartFits contests size lower = ⊥
 
-lower_part_exact : (contests : List Contest) (size : Option ℕ) → Exact (lower_part_at contests size) (LowerPartFits contests size) lower_part_text
+lower_part_exact : (contests : List Contest) (size : Option ℕ)
+    → Exact (lower_part_at contests size) (LowerPartFits contests size) lower_part_text
 unfolding lower_part_at
 lower_part_exact contests None = none_exact (LowerPartFits contests None) lower_part_text tt (λ v g. g) refl
 lower_part_exact contests (Some size) = some_exact (lower_at contests size) (LowerOneFits contests size) lower_text (LowerPartFits contests (Some size)) lower_part_text (lower_exact contests size) (λ v f. (f, refl)) (λ v g. (g, refl)) (λ g. g)
@@ -190,17 +205,22 @@ abbrev pub LicenseOneFits : ℕ → ℕ → License → Type 0
 LicenseOneFits targets from (Tree tree) = IsTreeOf AnyLabel IsReason tree
 LicenseOneFits targets from (Deck deck tree) = AttackedFits targets from (deck, tree)
 
-license_exact : (targets from : ℕ) → Exact (license_at targets from) (LicenseOneFits targets from) license_text
+license_exact : (targets from : ℕ)
+    → Exact (license_at targets from) (LicenseOneFits targets from) license_text
 unfolding license_at
 license_exact targets from = tagged_exact (license_by targets from) (license_at targets from) (LicenseOneFits targets from) license_text (λ _. refl) takes again
   where
-    takes : (tag : ℕ) (bytes : List ℕ) (v : License) (rest : List ℕ) → license_by targets from tag bytes ≡ Some (v, rest) → LicenseOneFits targets from v × (tag ∷ bytes ≡ license_text v ++ rest)
+    takes : (tag : ℕ) (bytes : List ℕ) (v : License) (rest : List ℕ)
+        → license_by targets from tag bytes ≡ Some (v, rest)
+        → LicenseOneFits targets from v × (tag ∷ bytes ≡ license_text v ++ rest)
     takes tag bytes v rest =
         one_tag (LicenseOneFits targets from) license_text tag bytes v rest 1 Tree (tree_at label_at reason_at) (IsTreeOf AnyLabel IsReason) (tree_text label_text reason_text) deck_tree_exact (λ _ f. (f, refl)) _ (
         one_tag (LicenseOneFits targets from) license_text tag bytes v rest 2 (λ (p : Ballots × List (Node ℕ Skipped)). Deck p.0 p.1) (attacked_at targets from) (AttackedFits targets from) (λ v. attacked_text v.0 v.1) (attacked_exact targets from) (λ _ f. (f, refl)) _ (
         no_tag (LicenseOneFits targets from) license_text tag bytes v rest))
 
-    again : (v : License) (rest : List ℕ) → LicenseOneFits targets from v → (u8_at (license_text v ++ rest) >>= λ tag. license_by targets from tag.0 tag.1) ≡ Some (v, rest)
+    again : (v : License) (rest : List ℕ) → LicenseOneFits targets from v
+        → (u8_at (license_text v ++ rest) >>= λ tag. license_by targets from tag.0 tag.1)
+        ≡ Some (v, rest)
     again (Tree t) rest f = made_again Tree (tree_at label_at reason_at) (IsTreeOf AnyLabel IsReason) (tree_text label_text reason_text) deck_tree_exact t rest f
     again (Deck d t) rest f = made_again (λ (p : Ballots × List (Node ℕ Skipped)). Deck p.0 p.1) (attacked_at targets from) (AttackedFits targets from) (λ v. attacked_text v.0 v.1) (attacked_exact targets from) (d, t) rest f
 
@@ -212,7 +232,8 @@ cert_body_text b = (verdict_text b.0.0 ++ deck_part_text b.0.0 b.0.1) ++ lower_p
 abbrev pub CertBodyFits : List Contest → CertBody → Type 0
 CertBodyFits contests b = (IsVerdict b.0.0 × DeckPartFits (target_count contests) b.0.0 b.0.1) × LowerPartFits contests (lower_size b.0.0) b.1
 
-pub cert_body_exact : (contests : List Contest) → Exact (cert_body_at contests) (CertBodyFits contests) cert_body_text
+pub cert_body_exact : (contests : List Contest)
+    → Exact (cert_body_at contests) (CertBodyFits contests) cert_body_text
 unfolding cert_body_at
 cert_body_exact contests =
     pair_exact (pair_at verdict_at (deck_part_at (target_count contests))) (λ v. lower_part_at contests (lower_size v.0)) (λ v. IsVerdict v.0 × DeckPartFits (target_count contests) v.0 v.1) (λ v. LowerPartFits contests (lower_size v.0))
@@ -236,7 +257,8 @@ abbrev pub OpenBodyFits : List Contest → OpenBody → Type 0
 OpenBodyFits contests b =
     ((SizesFit b.0.0.0 × BestDeckFits (target_count contests) b.0.0.1) × LowerPartFits contests (size_below b.0.0.0.1) b.0.1) × LicenseOneFits (target_count contests) b.0.0.0.1 b.1
 
-pub open_body_exact : (contests : List Contest) → Exact (open_body_at contests) (OpenBodyFits contests) open_body_text
+pub open_body_exact : (contests : List Contest)
+    → Exact (open_body_at contests) (OpenBodyFits contests) open_body_text
 unfolding open_body_at
 open_body_exact contests =
     let T = target_count contests in

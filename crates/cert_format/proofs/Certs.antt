@@ -51,15 +51,18 @@ back : (v : CertValue) → IsCert v → PartsFit (from_cert v)
 back v f = (f.head, ((f.kept.limits, deck_back v.contests v.verdict v.proved f.kept.deck_fits f.deck_field), lower_back v.contests (lower_size v.verdict) v.lower f.kept.lower_fits f.lower_field))
 
 -- what is read is a certificate, and the bytes are its spelling
-pub cert_found : (bytes : List ℕ) (p : CertParts) → file_at cert_magic cert_parts_at bytes ≡ Some p → IsCert (to_cert p) × (bytes ≡ cert_text (to_cert p))
+pub cert_found : (bytes : List ℕ) (p : CertParts) → file_at cert_magic cert_parts_at bytes ≡ Some p
+    → IsCert (to_cert p) × (bytes ≡ cert_text (to_cert p))
 cert_found bytes p e = let h = whole_takes cert_magic cert_parts_at PartsFit parts_text parts_exact refl bytes p e in (there p h.0, h.1)
 
 -- what is refused spells none
-pub cert_refused : {X : Type 0} (view : X → CertParts) (r : Result X CertFault) (bytes : List ℕ) → Gives view r (file_at cert_magic cert_parts_at bytes)
+pub cert_refused : {X : Type 0} (view : X → CertParts) (r : Result X CertFault) (bytes : List ℕ)
+    → Gives view r (file_at cert_magic cert_parts_at bytes)
     → r ≡ Err NotACertificate → (v : CertValue) → IsCert v → bytes ≡ cert_text v → ⊥
 cert_refused view r bytes h e v f s = read_refused cert_magic cert_parts_at PartsFit parts_text parts_exact refl view r bytes h e (from_cert v) (back v f) s
 
-pub cert_law : (v w : CertValue) (more : List ℕ) → IsCert v → IsCert w → cert_text v ++ more ≡ cert_text w → (v ≡ w) × (more ≡ [])
+pub cert_law : (v w : CertValue) (more : List ℕ) → IsCert v → IsCert w
+    → cert_text v ++ more ≡ cert_text w → (v ≡ w) × (more ≡ [])
 cert_law v w more f g e =
     let h = whole_law cert_magic cert_parts_at PartsFit parts_text parts_exact refl (from_cert v) (from_cert w) more (back v f) (back w g) e in
     (ap to_cert h.0, h.1)

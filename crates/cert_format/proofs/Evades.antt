@@ -40,15 +40,19 @@ back : (v : EvadeValue) → IsEvade v → PartsFit (from_evade v)
 back v f = (f.head, (f.attacked.few, (f.attacked.rows, f.attacked.tree)))
 
 -- what is read is an evade file, and the bytes are its spelling
-pub evade_found : (bytes : List ℕ) (p : EvadeParts) → file_at evade_magic evade_parts_at bytes ≡ Some p → IsEvade (to_evade p) × (bytes ≡ evade_text (to_evade p))
+pub evade_found : (bytes : List ℕ) (p : EvadeParts)
+    → file_at evade_magic evade_parts_at bytes ≡ Some p
+    → IsEvade (to_evade p) × (bytes ≡ evade_text (to_evade p))
 evade_found bytes p e = let h = whole_takes evade_magic evade_parts_at PartsFit parts_text parts_exact refl bytes p e in (there p h.0, h.1)
 
 -- what is refused spells none
-pub evade_refused : {X : Type 0} (view : X → EvadeParts) (r : Result X CertFault) (bytes : List ℕ) → Gives view r (file_at evade_magic evade_parts_at bytes)
+pub evade_refused : {X : Type 0} (view : X → EvadeParts) (r : Result X CertFault) (bytes : List ℕ)
+    → Gives view r (file_at evade_magic evade_parts_at bytes)
     → r ≡ Err NotACertificate → (v : EvadeValue) → IsEvade v → bytes ≡ evade_text v → ⊥
 evade_refused view r bytes h e v f s = read_refused evade_magic evade_parts_at PartsFit parts_text parts_exact refl view r bytes h e (from_evade v) (back v f) s
 
-pub evade_law : (v w : EvadeValue) (more : List ℕ) → IsEvade v → IsEvade w → evade_text v ++ more ≡ evade_text w → (v ≡ w) × (more ≡ [])
+pub evade_law : (v w : EvadeValue) (more : List ℕ) → IsEvade v → IsEvade w
+    → evade_text v ++ more ≡ evade_text w → (v ≡ w) × (more ≡ [])
 evade_law v w more f g e =
     let h = whole_law evade_magic evade_parts_at PartsFit parts_text parts_exact refl (from_evade v) (from_evade w) more (back v f) (back w g) e in
     (ap to_evade h.0, h.1)

@@ -12,7 +12,8 @@ named_long [] (c ∷ cs) h = absurd h
 named_long (n ∷ ns) [] h = absurd h
 named_long (n ∷ ns) (c ∷ cs) h = ap suc (named_long ns cs h.1)
 
-named_targets : (ns : List ContestNames) (cs : List Contest) → AreNamed ns cs → (c : ℕ) → c < length cs → length (names_at ns c).targets ≡ (contest_at cs c).targets
+named_targets : (ns : List ContestNames) (cs : List Contest) → AreNamed ns cs → (c : ℕ)
+    → c < length cs → length (names_at ns c).targets ≡ (contest_at cs c).targets
 named_targets [] [] h c lt = absurd (omega (arith, lt))
 named_targets [] (d ∷ cs) h c lt = absurd h
 named_targets (n ∷ ns) [] h c lt = absurd h

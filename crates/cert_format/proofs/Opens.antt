@@ -79,15 +79,18 @@ back v f = (
 )
 
 -- what is read is an open file, and the bytes are its spelling
-pub open_found : (bytes : List ℕ) (p : OpenParts) → file_at open_magic open_parts_at bytes ≡ Some p → IsOpen (to_open p) × (bytes ≡ open_text (to_open p))
+pub open_found : (bytes : List ℕ) (p : OpenParts) → file_at open_magic open_parts_at bytes ≡ Some p
+    → IsOpen (to_open p) × (bytes ≡ open_text (to_open p))
 open_found bytes p e = let h = whole_takes open_magic open_parts_at PartsFit parts_text parts_exact refl bytes p e in (there p h.0, h.1)
 
 -- what is refused spells none
-pub open_refused : {X : Type 0} (view : X → OpenParts) (r : Result X CertFault) (bytes : List ℕ) → Gives view r (file_at open_magic open_parts_at bytes)
+pub open_refused : {X : Type 0} (view : X → OpenParts) (r : Result X CertFault) (bytes : List ℕ)
+    → Gives view r (file_at open_magic open_parts_at bytes)
     → r ≡ Err NotACertificate → (v : OpenValue) → IsOpen v → bytes ≡ open_text v → ⊥
 open_refused view r bytes h e v f s = read_refused open_magic open_parts_at PartsFit parts_text parts_exact refl view r bytes h e (from_open v) (back v f) s
 
-pub open_law : (v w : OpenValue) (more : List ℕ) → IsOpen v → IsOpen w → open_text v ++ more ≡ open_text w → (v ≡ w) × (more ≡ [])
+pub open_law : (v w : OpenValue) (more : List ℕ) → IsOpen v → IsOpen w
+    → open_text v ++ more ≡ open_text w → (v ≡ w) × (more ≡ [])
 open_law v w more f g e =
     let h = whole_law open_magic open_parts_at PartsFit parts_text parts_exact refl (from_open v) (from_open w) more (back v f) (back w g) e in
     (ap to_open h.0, h.1)

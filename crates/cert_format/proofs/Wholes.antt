@@ -13,7 +13,8 @@ use Rattle.cert_fields.proofs.Heads.{guard_then, is_same, is_true}
 use Rattle.cert_format.specs.Reading.{magic_at, file_at}
 
 module _ {V : Type 0} (magic : List ℕ) (parts : List ℕ → Option (V × List ℕ)) (F : V → Type 0) (t : V → List ℕ) (x : Exact parts F t) (eight : length magic ≡ 8) where
-  pub whole_takes : (bytes : List ℕ) (v : V) → file_at magic parts bytes ≡ Some v → F v × (bytes ≡ magic ++ t v)
+  pub whole_takes : (bytes : List ℕ) (v : V) → file_at magic parts bytes ≡ Some v
+      → F v × (bytes ≡ magic ++ t v)
   unfolding file_at
   whole_takes bytes v e =
       let a = step (magic_at magic bytes) (λ rest. parts rest >>= λ x. cond (eqb (length x.1) 0) (Some x.0) None) v e in
@@ -34,12 +35,14 @@ module _ {V : Type 0} (magic : List ℕ) (parts : List ℕ → Option (V × List
       let tail : drop 8 (magic ++ t v) ≡ t v ++ [] = drop_at magic (t v) 8 eight ∙ sym (append-nil (t v)) in
       rw (same, tail, x.again v [] f) refl
 
-  pub whole_law : (v w : V) (more : List ℕ) → F v → F w → (magic ++ t v) ++ more ≡ magic ++ t w → (v ≡ w) × (more ≡ [])
+  pub whole_law : (v w : V) (more : List ℕ) → F v → F w → (magic ++ t v) ++ more ≡ magic ++ t w
+      → (v ≡ w) × (more ≡ [])
   whole_law v w more f g e =
       let behind : t v ++ more ≡ t w = sym (drop_at magic (t v ++ more) 8 eight) ∙ ap (drop 8) (sym (append_assoc magic (t v) more) ∙ e) ∙ drop_at magic (t w) 8 eight in
       one_spelling x v w more [] f g (behind ∙ sym (append-nil (t w)))
 
-  pub read_refused : {X : Type 0} (view : X → V) (r : Result X CertFault) (bytes : List ℕ) → Gives view r (file_at magic parts bytes)
+  pub read_refused : {X : Type 0} (view : X → V) (r : Result X CertFault) (bytes : List ℕ)
+      → Gives view r (file_at magic parts bytes)
       → r ≡ Err NotACertificate → (v : V) → F v → bytes ≡ magic ++ t v → ⊥
   read_refused {X} view r bytes h e v f s =
       let none : file_at magic parts bytes ≡ None = subst (λ (q : Result X CertFault). Gives view q (file_at magic parts bytes)) e h in

@@ -5,7 +5,7 @@ ghost use Rattle.cert_format.specs.Reading.{magic_at};
 use cert_types::CertFault;
 
 /// The bytes behind a file's first eight, where these are the ones that its kind begins with.
-pub(crate) fn magic_of<'a>(bytes: &'a [u8], magic: &[u8]) -> Result<&'a [u8], CertFault>
+pub fn magic_of<'a>(bytes: &'a [u8], magic: &[u8]) -> Result<&'a [u8], CertFault>
     requires { length magic.now ≡ 8 }
     ensures { Gives (λ rest. rest.now) result (magic_at magic.now bytes.now) }
 {

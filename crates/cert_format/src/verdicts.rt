@@ -25,7 +25,7 @@ pub(crate) fn limited_of(bytes: &[u8], least: u16, most: u16) -> Result<(u16, &[
 }
 
 /// The number of ballots at the front, from `least` to 1,024, and the bytes behind it.
-pub(crate) fn ballots_of(bytes: &[u8], least: u16) -> Result<(u16, &[u8]), CertFault>
+pub fn ballots_of(bytes: &[u8], least: u16) -> Result<(u16, &[u8]), CertFault>
     ensures read { Gives (λ x. (x.0, x.1.now)) result (limited_at least 1024 bytes.now) }
     ensures limit { IfOk result (λ x. x.0 ≤ 1024) }
 {
@@ -34,7 +34,7 @@ pub(crate) fn ballots_of(bytes: &[u8], least: u16) -> Result<(u16, &[u8]), CertF
 
 /// The verdict at the front, and the bytes behind it.
 #[tactic(auto, unfolding(crate::specs::Reading::verdict_at))]
-pub(crate) fn verdict_of(bytes: &[u8]) -> Result<(Verdict, &[u8]), CertFault>
+pub fn verdict_of(bytes: &[u8]) -> Result<(Verdict, &[u8]), CertFault>
     ensures read { Gives (λ x. (x.0, x.1.now)) result (verdict_at bytes.now) }
     ensures verdict { IfOk result (λ x. IsVerdict x.0) }
 {

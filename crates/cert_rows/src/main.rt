@@ -1,5 +1,5 @@
-//! Reads bytes as a certificate, an open file and an evade file, as the lines of standard input say,
-//! and prints what each reading came to.
+//! Reads bytes as a certificate, an open file and an evade file, as the lines of standard input
+//! say, and prints what each reading came to.
 #![tactic(auto)]
 
 mod answer;

@@ -29,7 +29,8 @@ use Rattle.cert_format.specs.Fields.{IsProvedField}
 use Rattle.cert_format.specs.Files.{IsCert}
 
 -- a walk over the misassignments of a deck begins at one of its own states
-start_is_own : (contests : List Contest) (deck : List (List Bool)) → IsShape contests → Fits (target_count contests) deck → length deck ≤ 1024
+start_is_own : (contests : List Contest) (deck : List (List Bool)) → IsShape contests
+    → Fits (target_count contests) deck → length deck ≤ 1024
     → IsEvadeState (own_sought contests deck) (start (own_sought contests deck))
 start_is_own contests deck shape fits few = record {
   is_sought = record { shape = shape; fits = fits; few = few; wanted = report_long contests deck (identity (target_count contests)); skip = identity_is (target_count contests) };
@@ -40,7 +41,8 @@ start_is_own contests deck shape fits few = record {
 }
 
 -- a deck that is proved is good
-good_of : (contests : List Contest) (rules : RuleSet) (p : Proved) → IsShape contests → IsProvedField contests p → IsProved contests rules p → IsGood contests rules p.deck.ballots
+good_of : (contests : List Contest) (rules : RuleSet) (p : Proved) → IsShape contests
+    → IsProvedField contests p → IsProved contests rules p → IsGood contests rules p.deck.ballots
 good_of contests rules p shape field holds =
     let deck = p.deck.ballots in
     let sought = own_sought contests deck in
@@ -51,7 +53,8 @@ good_of contests rules p shape field holds =
     (tree_of p.robust) (start sought) v own holds.robust.checks solved in
     record { fits = fits; robust = robust_there contests deck sought (start sought) refl refl none; obeys = holds.obeys }
 
-good_if : (contests : List Contest) (rules : RuleSet) (proved : Option Proved) → IsShape contests → IfSome proved (IsProvedField contests) → IfSome proved (IsProved contests rules)
+good_if : (contests : List Contest) (rules : RuleSet) (proved : Option Proved) → IsShape contests
+    → IfSome proved (IsProvedField contests) → IfSome proved (IsProved contests rules)
     → IfSome proved (λ p. IsGood contests rules p.deck.ballots)
 good_if contests rules None shape fields holds = tt
 good_if contests rules (Some p) shape fields holds = good_of contests rules p shape fields holds

@@ -23,12 +23,15 @@ pub rows_settle : (targets k : ℕ) → targets ≤ 256 → k ≤ 1024 → Settl
 rows_settle targets k few many = settles (rows_at targets k) (Rows targets k) (flat_map row_text) 0 32768 (rows_exact targets k)
     (λ rows f. (omega arith, omega (arith, rows_size targets k rows few f.0 f.1, many)))
 
-pub rows_long : (targets k : ℕ) (bytes : List ℕ) (rows : List (List Bool)) (rest : List ℕ) → rows_at targets k bytes ≡ Some (rows, rest) → length rows ≡ k
+pub rows_long : (targets k : ℕ) (bytes : List ℕ) (rows : List (List Bool)) (rest : List ℕ)
+    → rows_at targets k bytes ≡ Some (rows, rest) → length rows ≡ k
 rows_long targets k bytes rows rest e = ((rows_exact targets k).takes bytes rows rest e).0.0
 
-pub part_settles : (contests : List Contest) → length contests ≤ 128 → Settles 1 516 (part_at (length contests))
+pub part_settles : (contests : List Contest) → length contests ≤ 128
+    → Settles 1 516 (part_at (length contests))
 part_settles contests few = settles (part_at (length contests)) (IsPart contests) part_text 1 516 (part_exact contests)
     (λ cs f. part_size cs (omega (arith, few_contests contests cs f, few)))
 
-pub part_is : (contests : List Contest) (bytes cs rest : List ℕ) → part_at (length contests) bytes ≡ Some (cs, rest) → IsPart contests cs
+pub part_is : (contests : List Contest) (bytes cs rest : List ℕ)
+    → part_at (length contests) bytes ≡ Some (cs, rest) → IsPart contests cs
 part_is contests bytes cs rest e = ((part_exact contests).takes bytes cs rest e).0

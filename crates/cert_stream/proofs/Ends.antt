@@ -38,7 +38,8 @@ none_is bytes e cert is spelled = cert_refused (λ (x : CertParts). x) (Err NotA
 
 -- ---- pieces
 
-pub stands_piece : (phase : Phase) (held all piece : List ℕ) → StandsAt phase held all → StandsAt phase (held ++ piece) (all ++ piece)
+pub stands_piece : (phase : Phase) (held all piece : List ℕ) → StandsAt phase held all
+    → StandsAt phase (held ++ piece) (all ++ piece)
 stands_piece Start held all piece s = reads_piece all held piece whole_at s
 stands_piece (Rows front k) held all piece s = (s.0, reads_piece all held piece (rows_left (head_of front) front.verdict k) s.1)
 stands_piece (Robust front wanted check) held all piece s = (s.0, s.1, s.2, s.3, s.4, s.5, reads_piece all held piece (robust_left (head_of front) front.verdict s.0 s.1 wanted) s.6)
@@ -49,23 +50,27 @@ stands_piece (Done front fault) held all piece s = (s.0, s.1, s.2, s.3, reads_pi
 -- ---- the end
 
 -- behind a whole certificate nothing may stand
-empty_only : {A : Type 0} (x : Option A) (n : ℕ) → 0 < n → (b : Bool) → eqb n 0 ≡ b → cond b x None ≡ None
+empty_only : {A : Type 0} (x : Option A) (n : ℕ) → 0 < n → (b : Bool) → eqb n 0 ≡ b
+    → cond b x None ≡ None
 empty_only x n h true e = absurd (let z : n ≡ 0 = eqb-true n 0 e in omega arith)
 empty_only x n h false e = refl
 
-more_left : (head : Head) (verdict : Verdict) (proved : Option Proved) (lower : Option LowerPart) (bytes : List ℕ) → 0 < length bytes → end_left head verdict proved lower bytes ≡ None
+more_left : (head : Head) (verdict : Verdict) (proved : Option Proved) (lower : Option LowerPart)
+    (bytes : List ℕ) → 0 < length bytes → end_left head verdict proved lower bytes ≡ None
 more_left head verdict proved lower bytes h =
     let parts : Parts = (head, ((verdict, proved), lower)) in
     empty_only (Some parts) (length bytes) h (eqb (length bytes) 0) refl
 
-pub late : (front : Front) (fault : Option (Part × ℕ)) (held : List ℕ) → 0 < length held → Refuses (Done front fault) held
+pub late : (front : Front) (fault : Option (Part × ℕ)) (held : List ℕ) → 0 < length held
+    → Refuses (Done front fault) held
 late front fault held some all s = (
   reads_held all held (end_left (head_of front) front.verdict s.0 s.1) s.4 ∙ more_left (head_of front) front.verdict s.0 s.1 held some,
   λ _ more. s.4 more ∙ more_left (head_of front) front.verdict s.0 s.1 (held ++ more) (omega (arith, length-append held more, some)),
 )
 
 -- where something is read, the most bytes that it takes are there
-pub not_waiting : (phase : Phase) (there : ℕ) → waits phase there false ≡ false → most_of phase ≤ there
+pub not_waiting : (phase : Phase) (there : ℕ) → waits phase there false ≡ false
+    → most_of phase ≤ there
 not_waiting Start there e = ltb-false _ _ e
 not_waiting (Rows front k) there e = ltb-false _ _ e
 not_waiting (Robust front wanted check) there e = ltb-false _ _ e
@@ -73,7 +78,8 @@ not_waiting (Contests front size fault) there e = ltb-false _ _ e
 not_waiting (Lower front wanted check) there e = ltb-false _ _ e
 not_waiting (Done front fault) there e = omega arith
 
-pub not_ended : (phase : Phase) (there : ℕ) (ending : Bool) → waits phase there ending ≡ false → waits phase there true ≡ false
+pub not_ended : (phase : Phase) (there : ℕ) (ending : Bool) → waits phase there ending ≡ false
+    → waits phase there true ≡ false
 not_ended Start there ending e = refl
 not_ended (Rows front k) there ending e = refl
 not_ended (Robust front wanted check) there ending e = refl
@@ -87,7 +93,8 @@ some_left zero e = absurd (cc)
 some_left (suc n) e = omega arith
 
 -- where no more bytes come, only the end waits
-pub ends_done : (phase : Phase) (there : ℕ) → waits phase there true ≡ true → (front : Front) × (fault : Option (Part × ℕ)) × (phase ≡ Done front fault) × (there ≡ 0)
+pub ends_done : (phase : Phase) (there : ℕ) → waits phase there true ≡ true
+    → (front : Front) × (fault : Option (Part × ℕ)) × (phase ≡ Done front fault) × (there ≡ 0)
 ends_done Start there e = absurd (cc)
 ends_done (Rows front k) there e = absurd (cc)
 ends_done (Robust front wanted check) there e = absurd (cc)
@@ -100,7 +107,8 @@ pub tail_on : (bytes mid rest : List ℕ) → IsTail bytes mid → IsTail mid re
 tail_on bytes mid rest a b = (a.0 ++ b.0, a.1 ∙ ap (λ (r : List ℕ). a.0 ++ r) b.1 ∙ sym (append_assoc a.0 b.0 rest))
 
 -- what is left is come to by dropping what was read
-pub rest_is : (bytes rest : List ℕ) (n : ℕ) → IsTail bytes rest → n ≡ length bytes - length rest → drop n bytes ≡ rest
+pub rest_is : (bytes rest : List ℕ) (n : ℕ) → IsTail bytes rest → n ≡ length bytes - length rest
+    → drop n bytes ≡ rest
 rest_is bytes rest n t e =
     let m : n ≡ length t.0 = omega (arith, e, ap length t.1, length-append t.0 rest) in
     ap (drop n) t.1 ∙ drop_at t.0 rest n (sym m)
@@ -110,17 +118,24 @@ rest_is bytes rest n t e =
 abbrev pub head_at_end : Front → ℕ → heads.Head
 head_at_end front targets = record { names = front.names; targets = targets; verdict = front.verdict; best = front.best }
 
-claimed : (front : Front) (proved : Option Proved) (lower : Option LowerPart) (fault : Option (Part × ℕ)) (verdict : Verdict) → ArePartsAnswer front.shape front.rules proved lower fault
-    → IsCert (to_cert (head_of front, ((front.verdict, proved), lower))) → checked_of front.verdict fault ≡ Yes verdict → CertClaim (to_cert (head_of front, ((front.verdict, proved), lower)))
+claimed : (front : Front) (proved : Option Proved) (lower : Option LowerPart)
+    (fault : Option (Part × ℕ)) (verdict : Verdict)
+    → ArePartsAnswer front.shape front.rules proved lower fault
+    → IsCert (to_cert (head_of front, ((front.verdict, proved), lower)))
+    → checked_of front.verdict fault ≡ Yes verdict
+    → CertClaim (to_cert (head_of front, ((front.verdict, proved), lower)))
 claimed front proved lower None verdict h is e = claim_is_true (to_cert (head_of front, ((front.verdict, proved), lower))) is h
 claimed front proved lower (Some fault) verdict h is e = absurd (cc)
 
-is_checked : (front : Front) (proved : Option Proved) (lower : Option LowerPart) (fault : Option (Part × ℕ)) → ArePartsAnswer front.shape front.rules proved lower fault
-    → IsChecked (to_cert (head_of front, ((front.verdict, proved), lower))) (checked_of front.verdict fault)
+is_checked : (front : Front) (proved : Option Proved) (lower : Option LowerPart)
+    (fault : Option (Part × ℕ)) → ArePartsAnswer front.shape front.rules proved lower fault
+    → IsChecked (to_cert (head_of front, ((front.verdict, proved), lower)))
+    (checked_of front.verdict fault)
 is_checked front proved lower None h = (h, refl)
 is_checked front proved lower (Some fault) h = h
 
-pub answers : (front : Front) (fault : Option (Part × ℕ)) (targets : ℕ) (all : List ℕ) → targets ≡ target_count front.shape → StandsAt (Done front fault) [] all
+pub answers : (front : Front) (fault : Option (Part × ℕ)) (targets : ℕ) (all : List ℕ)
+    → targets ≡ target_count front.shape → StandsAt (Done front fault) [] all
     → IsAnswer all (head_at_end front targets) (checked_of front.verdict fault)
 answers front fault targets all count s =
     let parts : CertParts = (head_of front, ((front.verdict, s.0), s.1)) in

@@ -41,14 +41,17 @@ verdict_exact : Exact verdict_at IsVerdict verdict_text
 unfolding verdict_at
 verdict_exact = tagged_exact verdict_by verdict_at IsVerdict verdict_text (λ _. refl) takes again
   where
-    takes : (tag : ℕ) (bytes : List ℕ) (v : Verdict) (rest : List ℕ) → verdict_by tag bytes ≡ Some (v, rest) → IsVerdict v × (tag ∷ bytes ≡ verdict_text v ++ rest)
+    takes : (tag : ℕ) (bytes : List ℕ) (v : Verdict) (rest : List ℕ)
+        → verdict_by tag bytes ≡ Some (v, rest)
+        → IsVerdict v × (tag ∷ bytes ≡ verdict_text v ++ rest)
     takes tag bytes v rest =
         one_tag IsVerdict verdict_text tag bytes v rest 1 Least (limited_at 0 1024) (Limited 0 1024) u16_text (limited_exact 0 1024) (λ n f. ((limits 0 1024 n f.1).1, refl)) _ (
         one_tag IsVerdict verdict_text tag bytes v rest 2 NoneWithin (limited_at 1 1024) (Limited 1 1024) u16_text (limited_exact 1 1024) (λ n f. let l = limits 1 1024 n f.1 in ((l.0, l.1), refl)) _ (
         one_tag IsVerdict verdict_text tag bytes v rest 3 Bounds (limited_at 0 1024) (Limited 0 1024) u16_text (limited_exact 0 1024) (λ n f. ((limits 0 1024 n f.1).1, refl)) _ (
         no_tag IsVerdict verdict_text tag bytes v rest)))
 
-    again : (v : Verdict) (rest : List ℕ) → IsVerdict v → (u8_at (verdict_text v ++ rest) >>= λ tag. verdict_by tag.0 tag.1) ≡ Some (v, rest)
+    again : (v : Verdict) (rest : List ℕ) → IsVerdict v
+        → (u8_at (verdict_text v ++ rest) >>= λ tag. verdict_by tag.0 tag.1) ≡ Some (v, rest)
     again (Least n) rest f = made_again Least (limited_at 0 1024) (Limited 0 1024) u16_text (limited_exact 0 1024) n rest (tt, within 0 1024 n (omega arith) f)
     again (NoneWithin n) rest f = made_again NoneWithin (limited_at 1 1024) (Limited 1 1024) u16_text (limited_exact 1 1024) n rest (tt, within 1 1024 n f.0 f.1)
     again (Bounds n) rest f = made_again Bounds (limited_at 0 1024) (Limited 0 1024) u16_text (limited_exact 0 1024) n rest (tt, within 0 1024 n (omega arith) f)
@@ -90,13 +93,16 @@ ballots_exact (Least k) = fixed_exact (Some k)
 ballots_exact (NoneWithin m) = fixed_exact None
 ballots_exact (Bounds f) = tagged_exact flagged_by (ballots_at (Bounds f)) FlaggedFits flagged_text (λ _. refl) takes again
   where
-    takes : (tag : ℕ) (bytes : List ℕ) (v : Option ℕ) (rest : List ℕ) → flagged_by tag bytes ≡ Some (v, rest) → FlaggedFits v × (tag ∷ bytes ≡ flagged_text v ++ rest)
+    takes : (tag : ℕ) (bytes : List ℕ) (v : Option ℕ) (rest : List ℕ)
+        → flagged_by tag bytes ≡ Some (v, rest)
+        → FlaggedFits v × (tag ∷ bytes ≡ flagged_text v ++ rest)
     takes tag bytes v rest =
         one_tag FlaggedFits flagged_text tag bytes v rest 0 (λ _. None) nothing_at Always nothing nothing_exact (λ _ _. (tt, refl)) _ (
         one_tag FlaggedFits flagged_text tag bytes v rest 1 Some (limited_at 0 1024) (Limited 0 1024) u16_text (limited_exact 0 1024) (λ n f. (f, refl)) _ (
         no_tag FlaggedFits flagged_text tag bytes v rest))
 
-    again : (v : Option ℕ) (rest : List ℕ) → FlaggedFits v → (u8_at (flagged_text v ++ rest) >>= λ tag. flagged_by tag.0 tag.1) ≡ Some (v, rest)
+    again : (v : Option ℕ) (rest : List ℕ) → FlaggedFits v
+        → (u8_at (flagged_text v ++ rest) >>= λ tag. flagged_by tag.0 tag.1) ≡ Some (v, rest)
     again None rest f = refl
     again (Some n) rest f = made_again Some (limited_at 0 1024) (Limited 0 1024) u16_text (limited_exact 0 1024) n rest f
 
@@ -125,7 +131,8 @@ behind_exact =
     pair_exact (pair_at head_at (λ _. verdict_at)) (λ v. ballots_at v.1) (λ v. IsHead v.0 × IsVerdict v.1) (λ v. BallotsFit v.1) (λ v. head_text v.0 ++ verdict_text v.1) (λ v. ballots_text v.1)
     (pair_exact head_at (λ _. verdict_at) IsHead (λ _. IsVerdict) head_text (λ _. verdict_text) head_exact (λ _. verdict_exact)) (λ v. ballots_exact v.1)
 
-magic_again : (magic bytes : List ℕ) → length magic ≡ 8 → magic_at magic (magic ++ bytes) ≡ Some bytes
+magic_again : (magic bytes : List ℕ) → length magic ≡ 8
+    → magic_at magic (magic ++ bytes) ≡ Some bytes
 magic_again magic bytes eight =
     let same : bytes_eq (take 8 (magic ++ bytes)) magic ≡ true = is_true _ _ (take_at magic bytes 8 eight) in
     rw (same, drop_at magic bytes 8 eight) refl
@@ -147,7 +154,9 @@ front_exact = record {
 pub front_settles : Settles 8 25560 front_at
 front_settles = settles front_at FrontFits (λ v. cert_magic ++ behind_text v) 8 25560 front_exact sizes
   where
-    sizes : (v : Front) → FrontFits v → (8 ≤ length (cert_magic ++ behind_text v)) × (length (cert_magic ++ behind_text v) ≤ 25560)
+    sizes : (v : Front) → FrontFits v
+        → (8 ≤ length (cert_magic ++ behind_text v))
+        × (length (cert_magic ++ behind_text v) ≤ 25560)
     sizes v f =
         let all = length-append cert_magic (behind_text v) in
         (omega (arith, all), omega (arith, all, length-append (head_text v.0.0 ++ verdict_text v.0.1) (ballots_text v.0.1 v.1), length-append (head_text v.0.0) (verdict_text v.0.1), head_size v.0.0 f.0.0, verdict_size v.0.1, ballots_size v.0.1 v.1))
@@ -167,7 +176,9 @@ module _ (head : Head) (verdict : Verdict) where
   abbrev lower_then : Option Proved → Option (Option LowerPart × List ℕ) → Option Parts
   lower_then proved o = o >>= λ l. fin (head, ((verdict, proved), l.0)) l.1
 
-  lower_is : (proved : Option Proved) (size : Option ℕ) (bytes : List ℕ) → lower_then proved (lower_part_at head.contests size bytes) ≡ lower_part_left head verdict proved size bytes
+  lower_is : (proved : Option Proved) (size : Option ℕ) (bytes : List ℕ)
+      → lower_then proved (lower_part_at head.contests size bytes)
+      ≡ lower_part_left head verdict proved size bytes
   unfolding lower_part_at lower_at tree_at
   lower_is proved None bytes = refl
   lower_is proved (Some size) bytes = by_part (part_at (length head.contests) bytes)
@@ -191,48 +202,66 @@ module _ (head : Head) (verdict : Verdict) where
   made bytes o = deck_then (made_at Some (made_at (λ (p : Ballots × Nodes). record { deck = p.0; robust = p.1 })
       (made_at (λ (p : Rows × Nodes). (record { targets = target_count head.contests; ballots = p.0 }, p.1)) (λ _. o))) bytes)
 
-  proved_is : (k : ℕ) (bytes : List ℕ) → deck_then (made_at Some (proved_at (target_count head.contests) k) bytes) ≡ rows_left head verdict k bytes
+  proved_is : (k : ℕ) (bytes : List ℕ)
+      → deck_then (made_at Some (proved_at (target_count head.contests) k) bytes)
+      ≡ rows_left head verdict k bytes
   unfolding proved_at tree_at
   proved_is k bytes = by_rows (rows_at (target_count head.contests) k bytes)
     where
-      by_tree : (rows : Rows) (o : Option (Nodes × List ℕ)) → made bytes (o >>= λ b. Some ((rows, b.0), b.1))
+      by_tree : (rows : Rows) (o : Option (Nodes × List ℕ))
+          → made bytes (o >>= λ b. Some ((rows, b.0), b.1))
           ≡ (o >>= λ t. lower_part_left head verdict (Some (record { deck = record { targets = target_count head.contests; ballots = rows }; robust = t.0 })) (lower_size verdict) t.1)
       by_tree rows None = refl
       by_tree rows (Some t) = lower_is (Some (record { deck = record { targets = target_count head.contests; ballots = rows }; robust = t.0 })) (lower_size verdict) t.1
 
-      by_rows : (o : Option (Rows × List ℕ)) → made bytes (o >>= λ a. trees_at evade_node_at 1 a.1 >>= λ b. Some ((a.0, b.0), b.1))
+      by_rows : (o : Option (Rows × List ℕ))
+          → made bytes (o >>= λ a. trees_at evade_node_at 1 a.1 >>= λ b. Some ((a.0, b.0), b.1))
           ≡ (o >>= λ d. robust_left head verdict (record { targets = target_count head.contests; ballots = d.0 }) [] 1 d.1)
       by_rows None = refl
       by_rows (Some d) = by_tree d.0 (trees_at evade_node_at 1 d.1)
 
-  best_is : (tag : ℕ) (bytes : List ℕ) → deck_then (best_by (target_count head.contests) tag bytes) ≡ (flagged_by tag bytes >>= λ k. deck_left head verdict k.0 k.1)
+  best_is : (tag : ℕ) (bytes : List ℕ)
+      → deck_then (best_by (target_count head.contests) tag bytes)
+      ≡ (flagged_by tag bytes >>= λ k. deck_left head verdict k.0 k.1)
   unfolding sized_at
   best_is tag bytes = by_flag (eqb tag 0) (eqb tag 1)
     where
       by_number : (o : Option (ℕ × List ℕ))
-          → deck_then (made_at Some (made_at (λ (p : ℕ × Proved). p.1) (λ _. o >>= λ a. proved_at (target_count head.contests) a.0 a.1 >>= λ b. Some ((a.0, b.0), b.1))) bytes)
+          → deck_then
+          (made_at Some (made_at (λ (p : ℕ × Proved). p.1)
+          (λ _. o >>= λ a. proved_at (target_count head.contests) a.0 a.1 >>= λ b. Some
+          ((a.0, b.0), b.1))) bytes)
           ≡ (made_at Some (λ _. o) bytes >>= λ k. deck_left head verdict k.0 k.1)
       by_number None = refl
       by_number (Some n) = by_deck (proved_at (target_count head.contests) n.0 n.1) ∙ proved_is n.0 n.1
         where
           by_deck : (o : Option (Proved × List ℕ))
-              → deck_then (made_at Some (made_at (λ (p : ℕ × Proved). p.1) (λ _. o >>= λ b. Some ((n.0, b.0), b.1))) bytes) ≡ deck_then (made_at Some (λ _. o) n.1)
+              → deck_then
+              (made_at Some (made_at (λ (p : ℕ × Proved). p.1)
+              (λ _. o >>= λ b. Some ((n.0, b.0), b.1))) bytes)
+              ≡ deck_then (made_at Some (λ _. o) n.1)
           by_deck None = refl
           by_deck (Some p) = refl
 
-      by_flag : (a b : Bool) → deck_then (cond a (Some (None, bytes)) (cond b (made_at Some (sized_at (target_count head.contests)) bytes) None))
+      by_flag : (a b : Bool) → deck_then
+          (cond a (Some (None, bytes)) (cond b
+          (made_at Some (sized_at (target_count head.contests)) bytes) None))
           ≡ (cond a (Some (None, bytes)) (cond b (made_at Some (limited_at 0 1024) bytes) None) >>= λ k. deck_left head verdict k.0 k.1)
       by_flag true b = lower_is None (lower_size verdict) bytes
       by_flag false true = by_number (limited_at 0 1024 bytes)
       by_flag false false = refl
 
-deck_is : (head : Head) (verdict : Verdict) (bytes : List ℕ) → deck_then head verdict (deck_part_at (target_count head.contests) verdict bytes) ≡ (ballots_at verdict bytes >>= λ k. deck_left head verdict k.0 k.1)
+deck_is : (head : Head) (verdict : Verdict) (bytes : List ℕ)
+    → deck_then head verdict (deck_part_at (target_count head.contests) verdict bytes)
+    ≡ (ballots_at verdict bytes >>= λ k. deck_left head verdict k.0 k.1)
 unfolding deck_part_at best_at
 deck_is head (Least k) bytes = proved_is head (Least k) k bytes
 deck_is head (NoneWithin m) bytes = lower_is head (NoneWithin m) None (Some m) bytes
 deck_is head (Bounds f) bytes = by_tag (u8_at bytes)
   where
-    by_tag : (o : Option (ℕ × List ℕ)) → deck_then head (Bounds f) (o >>= λ tag. best_by (target_count head.contests) tag.0 tag.1) ≡ ((o >>= λ tag. flagged_by tag.0 tag.1) >>= λ k. deck_left head (Bounds f) k.0 k.1)
+    by_tag : (o : Option (ℕ × List ℕ))
+        → deck_then head (Bounds f) (o >>= λ tag. best_by (target_count head.contests) tag.0 tag.1)
+        ≡ ((o >>= λ tag. flagged_by tag.0 tag.1) >>= λ k. deck_left head (Bounds f) k.0 k.1)
     by_tag None = refl
     by_tag (Some tag) = best_is head (Bounds f) tag.0 tag.1
 
@@ -281,6 +310,7 @@ whole_is bytes = by_magic (magic_at cert_magic bytes)
     by_head None = refl
     by_head (Some h) = by_verdict h.0 (verdict_at h.1)
 
-    by_magic : (o : Option (List ℕ)) → (o >>= λ rest. ended (cert_parts_at rest)) ≡ left (o >>= behind_magic)
+    by_magic : (o : Option (List ℕ))
+        → (o >>= λ rest. ended (cert_parts_at rest)) ≡ left (o >>= behind_magic)
     by_magic None = refl
     by_magic (Some rest) = by_head (head_at rest)

@@ -37,7 +37,8 @@ pub evade_node_shorter : Shortens evade_node_at
 evade_node_shorter = node_shorter u16_at AnyImage u16_text skipped_at AnySkipped skipped_text u16_exact skipped_exact
 
 -- one node more is wanted so
-pub wanted_more : {B R : Type 0} (ns : List (Node B R)) (b w : ℕ) (n : Node B R) → wanted_after b ns ≡ Some w → 0 < w → wanted_after b (ns ++ n ∷ []) ≡ Some (w - 1 + kids_of n)
+pub wanted_more : {B R : Type 0} (ns : List (Node B R)) (b w : ℕ) (n : Node B R)
+    → wanted_after b ns ≡ Some w → 0 < w → wanted_after b (ns ++ n ∷ []) ≡ Some (w - 1 + kids_of n)
 wanted_more [] zero w n e h = absurd (let z : 0 ≡ w = same_Some 0 w e in omega arith)
 wanted_more [] (suc b) w n e h = let z : suc b ≡ w = same_Some (suc b) w e in ap (λ (i : ℕ). Some (i + kids_of n)) (omega arith)
 wanted_more (m ∷ ns) zero w n e h = absurd (none-some w e)
@@ -52,16 +53,22 @@ module _ {B R : Type 0} (node : Reader (Node B R)) (short : Shortens node) where
   abbrev consed : Node B R → Option (List (Node B R) × List ℕ) → Option (List (Node B R) × List ℕ)
   consed n o = o >>= λ t. Some (n ∷ t.0, t.1)
 
-  abbrev behind : (Node B R × List ℕ → Option (List (Node B R) × List ℕ)) → Option (Node B R × List ℕ) → Option (List (Node B R) × List ℕ)
+  abbrev behind : (Node B R × List ℕ → Option (List (Node B R) × List ℕ))
+      → Option (Node B R × List ℕ) → Option (List (Node B R) × List ℕ)
   behind others o = o >>= λ n. consed n.0 (others n)
 
-  fuel_by : (f g w : ℕ) (bytes : List ℕ) → ((p : Node B R × List ℕ) → node bytes ≡ Some p → nodes_at node f (w + kids_of p.0) p.1 ≡ nodes_at node g (w + kids_of p.0) p.1)
-      → (o : Option (Node B R × List ℕ)) → node bytes ≡ o → behind (λ n. nodes_at node f (w + kids_of n.0) n.1) o ≡ behind (λ n. nodes_at node g (w + kids_of n.0) n.1) o
+  fuel_by : (f g w : ℕ) (bytes : List ℕ)
+      → ((p : Node B R × List ℕ) → node bytes ≡ Some p
+      → nodes_at node f (w + kids_of p.0) p.1 ≡ nodes_at node g (w + kids_of p.0) p.1)
+      → (o : Option (Node B R × List ℕ)) → node bytes ≡ o
+      → behind (λ n. nodes_at node f (w + kids_of n.0) n.1) o
+      ≡ behind (λ n. nodes_at node g (w + kids_of n.0) n.1) o
   fuel_by f g w bytes same None e = refl
   fuel_by f g w bytes same (Some p) e = ap (consed p.0) (same p e)
 
   -- it is the same with any fuel that is enough
-  fuel_same : (f g w : ℕ) (bytes : List ℕ) → length bytes ≤ f → length bytes ≤ g → nodes_at node f w bytes ≡ nodes_at node g w bytes
+  fuel_same : (f g w : ℕ) (bytes : List ℕ) → length bytes ≤ f → length bytes ≤ g
+      → nodes_at node f w bytes ≡ nodes_at node g w bytes
   fuel_same zero zero w bytes a b = refl
   fuel_same zero (suc g) zero bytes a b = refl
   fuel_same (suc f) zero zero bytes a b = refl
@@ -73,13 +80,15 @@ module _ {B R : Type 0} (node : Reader (Node B R)) (short : Shortens node) where
   fuel_same (suc f) (suc g) (suc w) bytes a b =
       fuel_by f g w bytes (λ p e. let less = short bytes p.0 p.1 e in fuel_same f g (w + kids_of p.0) p.1 (omega (arith, less, a)) (omega (arith, less, b))) (node bytes) refl
 
-  pub one_node : (w : ℕ) (bytes : List ℕ) → 0 < w → trees_at node w bytes ≡ behind (λ n. trees_at node (w - 1 + kids_of n.0) n.1) (node bytes)
+  pub one_node : (w : ℕ) (bytes : List ℕ) → 0 < w
+      → trees_at node w bytes ≡ behind (λ n. trees_at node (w - 1 + kids_of n.0) n.1) (node bytes)
   one_node zero bytes h = absurd (omega arith)
   one_node (suc w) [] h = rw (none_empty (node []) refl) refl
   one_node (suc w) (x ∷ bytes) h = by (node (x ∷ bytes)) refl
     where
       by : (o : Option (Node B R × List ℕ)) → node (x ∷ bytes) ≡ o
-          → behind (λ n. nodes_at node (length bytes) (w + kids_of n.0) n.1) o ≡ behind (λ n. trees_at node (suc w - 1 + kids_of n.0) n.1) o
+          → behind (λ n. nodes_at node (length bytes) (w + kids_of n.0) n.1) o
+          ≡ behind (λ n. trees_at node (suc w - 1 + kids_of n.0) n.1) o
       by None e = refl
       by (Some p) e =
           let less = short (x ∷ bytes) p.0 p.1 e in
@@ -99,36 +108,49 @@ module _ {B R : Type 0} (node : Reader (Node B R)) (short : Shortens node) where
     abbrev pub one_then : List (Node B R) → ℕ → List ℕ → Option Parts
     one_then nodes w bytes = node bytes >>= λ n. left_of (nodes ++ n.0 ∷ []) (w - 1 + kids_of n.0) n.1
 
-    pub node_left : (nodes : List (Node B R)) (w : ℕ) (bytes : List ℕ) → 0 < w → left_of nodes w bytes ≡ (node bytes >>= λ n. left_of (nodes ++ n.0 ∷ []) (w - 1 + kids_of n.0) n.1)
+    pub node_left : (nodes : List (Node B R)) (w : ℕ) (bytes : List ℕ) → 0 < w
+        → left_of nodes w bytes
+        ≡ (node bytes >>= λ n. left_of (nodes ++ n.0 ∷ []) (w - 1 + kids_of n.0) n.1)
     node_left nodes w bytes h = ap (λ (t : Option (List (Node B R) × List ℕ)). t >>= λ t. next (nodes ++ t.0) t.1) (one_node w bytes h) ∙ by (node bytes)
       where
         each : (n : Node B R) (t : Option (List (Node B R) × List ℕ))
-            → (consed n t >>= λ t. next (nodes ++ t.0) t.1) ≡ (t >>= λ t. next ((nodes ++ n ∷ []) ++ t.0) t.1)
+            → (consed n t >>= λ t. next (nodes ++ t.0) t.1)
+            ≡ (t >>= λ t. next ((nodes ++ n ∷ []) ++ t.0) t.1)
         each n None = refl
         each n (Some t) = ap (λ (ns : List (Node B R)). next ns t.1) (sym (append_assoc nodes (n ∷ []) t.0))
 
-        by : (o : Option (Node B R × List ℕ)) → (behind (λ n. trees_at node (w - 1 + kids_of n.0) n.1) o >>= λ t. next (nodes ++ t.0) t.1) ≡ (o >>= λ n. left_of (nodes ++ n.0 ∷ []) (w - 1 + kids_of n.0) n.1)
+        by : (o : Option (Node B R × List ℕ))
+            → (behind (λ n. trees_at node (w - 1 + kids_of n.0) n.1) o >>= λ t. next (nodes ++ t.0)
+            t.1) ≡ (o >>= λ n. left_of (nodes ++ n.0 ∷ []) (w - 1 + kids_of n.0) n.1)
         by None = refl
         by (Some n) = each n.0 (trees_at node (w - 1 + kids_of n.0) n.1)
 
-    pub none_left : (nodes : List (Node B R)) (bytes : List ℕ) → left_of nodes 0 bytes ≡ next nodes bytes
+    pub none_left : (nodes : List (Node B R)) (bytes : List ℕ)
+        → left_of nodes 0 bytes ≡ next nodes bytes
     none_left nodes bytes = ap (λ (t : Option (List (Node B R) × List ℕ)). t >>= λ t. next (nodes ++ t.0) t.1) (no_node bytes) ∙ ap (λ (ns : List (Node B R)). next ns bytes) (append-nil nodes)
 
     -- one node more was read
-    pub tree_on : {least most : ℕ} → Settles least most node → (all held rest : List ℕ) (nodes : List (Node B R)) (wanted later : ℕ) (n : Node B R) → 0 < wanted → node held ≡ Some (n, rest)
-        → later ≡ wanted - 1 + kids_of n → Reads all held (left_of nodes wanted) → Reads all rest (left_of (nodes ++ n ∷ []) later)
+    pub tree_on : {least most : ℕ} → Settles least most node
+        → (all held rest : List ℕ) (nodes : List (Node B R)) (wanted later : ℕ) (n : Node B R)
+        → 0 < wanted → node held ≡ Some (n, rest)
+        → later ≡ wanted - 1 + kids_of n → Reads all held (left_of nodes wanted)
+        → Reads all rest (left_of (nodes ++ n ∷ []) later)
     tree_on s all held rest nodes wanted later n some e is reads =
         let r : Reads all held (one_then nodes wanted) = reads_so all held (left_of nodes wanted) (one_then nodes wanted) (λ bytes. node_left nodes wanted bytes some) reads in
         rw is (reads_field node (λ m. left_of (nodes ++ m ∷ []) (wanted - 1 + kids_of m)) all held r n rest s e)
 
     -- the last one was
-    pub tree_done : (all held : List ℕ) (nodes : List (Node B R)) (wanted : ℕ) → wanted ≡ 0 → Reads all held (left_of nodes wanted) → Reads all held (next nodes)
+    pub tree_done : (all held : List ℕ) (nodes : List (Node B R)) (wanted : ℕ) → wanted ≡ 0
+        → Reads all held (left_of nodes wanted) → Reads all held (next nodes)
     tree_done all held nodes zero e reads = reads_so all held (left_of nodes 0) (next nodes) (none_left nodes) reads
     tree_done all held nodes (suc w) e reads = absurd (omega (arith, e))
 
     -- none was
-    pub tree_stops : {least most : ℕ} → Settles least most node → (all held : List ℕ) (nodes : List (Node B R)) (wanted : ℕ) → 0 < wanted → node held ≡ None → Reads all held (left_of nodes wanted)
-        → (whole_at all ≡ None) × (most ≤ length held → (more : List ℕ) → whole_at (all ++ more) ≡ None)
+    pub tree_stops : {least most : ℕ} → Settles least most node
+        → (all held : List ℕ) (nodes : List (Node B R)) (wanted : ℕ) → 0 < wanted → node held ≡ None
+        → Reads all held (left_of nodes wanted)
+        → (whole_at all ≡ None) × (most ≤ length held → (more : List ℕ)
+        → whole_at (all ++ more) ≡ None)
     tree_stops s all held nodes wanted some e reads =
         let r : Reads all held (one_then nodes wanted) = reads_so all held (left_of nodes wanted) (one_then nodes wanted) (λ bytes. node_left nodes wanted bytes some) reads in
         let later = λ (m : Node B R). left_of (nodes ++ m ∷ []) (wanted - 1 + kids_of m) in

@@ -28,7 +28,9 @@ pairs (n ∷ s) = omega (arith, ap length (flat_map-cons u16_text n s), length-a
 
 -- ---- nodes
 
-pub deck_node_size : (n : Node Label Reason) → IsNode AnyLabel IsReason n → (1 ≤ length (node_text label_text reason_text n)) × (length (node_text label_text reason_text n) ≤ 516)
+pub deck_node_size : (n : Node Label Reason) → IsNode AnyLabel IsReason n
+    → (1 ≤ length (node_text label_text reason_text n))
+    × (length (node_text label_text reason_text n) ≤ 516)
 deck_node_size Open f = (omega arith, omega arith)
 deck_node_size (Close (Order j)) f = (omega arith, omega arith)
 deck_node_size (Close (Totals c)) f = (omega arith, omega arith)
@@ -44,17 +46,21 @@ deck_node_size (Close (Evade s)) f = (omega arith, omega (arith, pairs s, f.few)
 deck_node_size (Fork (Mark j t) n) f = (omega arith, omega arith)
 deck_node_size (Fork (Split t x) n) f = (omega arith, omega arith)
 
-pub evade_node_size : (n : Node ℕ Skipped) → IsNode AnyImage AnySkipped n → (1 ≤ length (node_text u16_text skipped_text n)) × (length (node_text u16_text skipped_text n) ≤ 516)
+pub evade_node_size : (n : Node ℕ Skipped) → IsNode AnyImage AnySkipped n
+    → (1 ≤ length (node_text u16_text skipped_text n))
+    × (length (node_text u16_text skipped_text n) ≤ 516)
 evade_node_size Open f = (omega arith, omega arith)
 evade_node_size (Close r) f = (omega arith, omega arith)
 evade_node_size (Fork l n) f = (omega arith, omega arith)
 
 -- ---- contests and rows
 
-pub part_size : (cs : List ℕ) → length cs ≤ 128 → (1 ≤ length (part_text cs)) × (length (part_text cs) ≤ 516)
+pub part_size : (cs : List ℕ) → length cs ≤ 128
+    → (1 ≤ length (part_text cs)) × (length (part_text cs) ≤ 516)
 part_size cs few = (omega arith, omega (arith, pairs cs, few, length-append (u16_text (length cs)) (flat_map u16_text cs)))
 
-pub rows_size : (targets k : ℕ) (rows : List (List Bool)) → targets ≤ 256 → length rows ≡ k → AllByRecursion (λ row. length row ≡ targets) rows → length (flat_map row_text rows) ≤ 32 * k
+pub rows_size : (targets k : ℕ) (rows : List (List Bool)) → targets ≤ 256 → length rows ≡ k
+    → AllByRecursion (λ row. length row ≡ targets) rows → length (flat_map row_text rows) ≤ 32 * k
 rows_size targets k [] few e h = omega arith
 rows_size targets zero (row ∷ rows) few e h = absurd (omega (arith, e))
 rows_size targets (suc k) (row ∷ rows) few e h =
@@ -69,11 +75,13 @@ id_size id is =
     let most : length id ≤ 64 = leb-true (length id) 64 (and_parts (nat_le 1 (length id)) (nat_le (length id) 64) limits.0).1 in
     omega (arith, most)
 
-ids_size : (ids : List (List ℕ)) → AllByRecursion IsText ids → length (flat_map id_text ids) ≤ 65 * length ids
+ids_size : (ids : List (List ℕ)) → AllByRecursion IsText ids
+    → length (flat_map id_text ids) ≤ 65 * length ids
 ids_size [] h = omega arith
 ids_size (id ∷ ids) h = omega (arith, ap length (flat_map-cons id_text id ids), length-append (id_text id) (flat_map id_text ids), id_size id h.0, ids_size ids h.1)
 
-contest_size : (n : ContestNames) (c : Contest) → IsNamed n c → length (contest_text n c) ≤ 69 + 65 * c.targets
+contest_size : (n : ContestNames) (c : Contest) → IsNamed n c
+    → length (contest_text n c) ≤ 69 + 65 * c.targets
 contest_size n c is =
     omega (
       arith,
@@ -85,7 +93,8 @@ contest_size n c is =
       is.count,
     )
 
-contests_size : (ns : List ContestNames) (cs : List Contest) → AreNamed ns cs → length (contests_text ns cs) ≤ 69 * length cs + 65 * target_count cs
+contests_size : (ns : List ContestNames) (cs : List Contest) → AreNamed ns cs
+    → length (contests_text ns cs) ≤ 69 * length cs + 65 * target_count cs
 contests_size [] [] h = omega arith
 contests_size [] (c ∷ cs) h = absurd h
 contests_size (n ∷ ns) [] h = absurd h

@@ -57,26 +57,35 @@ DeckCheck = Checking Decks PartialDeck Label Reason
 
 -- ---- what a check keeps of itself
 
-pub evade_walk : (check : EvadeCheck) (wanted : ℕ) → IsEvadeCheck check wanted → (walk : Walk Sought PartialMisassignment ℕ Skipped) → check ≡ On walk
-    → (root : PartialMisassignment) × (nodes : List (Node ℕ Skipped)) × (w : ℕ) × IsOpenWalk (evade_steps walk.space) (IsEvadeState walk.space) walk root nodes w
+pub evade_walk : (check : EvadeCheck) (wanted : ℕ) → IsEvadeCheck check wanted
+    → (walk : Walk Sought PartialMisassignment ℕ Skipped) → check ≡ On walk
+    → (root : PartialMisassignment) × (nodes : List (Node ℕ Skipped)) × (w : ℕ)
+    × IsOpenWalk (evade_steps walk.space) (IsEvadeState walk.space) walk root nodes w
 evade_walk (Off p i) wanted h walk e = absurd (cc)
 evade_walk (On w) wanted h walk e =
     let same : w ≡ walk = cc in
     subst (λ (x : Walk Sought PartialMisassignment ℕ Skipped). (root : PartialMisassignment) × (nodes : List (Node ℕ Skipped)) × (n : ℕ) × IsOpenWalk (evade_steps x.space) (IsEvadeState x.space) x root nodes n) same (h.0, h.1, wanted, h.2)
 
-pub deck_walk : (check : DeckCheck) (wanted : ℕ) → IsDeckCheck check wanted → (walk : Walk Decks PartialDeck Label Reason) → check ≡ On walk
-    → (root : PartialDeck) × (nodes : List (Node Label Reason)) × (w : ℕ) × IsOpenWalk deck_steps IsPartial walk root nodes w
+pub deck_walk : (check : DeckCheck) (wanted : ℕ) → IsDeckCheck check wanted
+    → (walk : Walk Decks PartialDeck Label Reason) → check ≡ On walk
+    → (root : PartialDeck) × (nodes : List (Node Label Reason)) × (w : ℕ)
+    × IsOpenWalk deck_steps IsPartial walk root nodes w
 deck_walk (Off p i) wanted h walk e = absurd (cc)
 deck_walk (On w) wanted h walk e =
     let same : w ≡ walk = cc in
     subst (λ (x : Walk Decks PartialDeck Label Reason). (root : PartialDeck) × (nodes : List (Node Label Reason)) × (n : ℕ) × IsOpenWalk deck_steps IsPartial x root nodes n) same (h.0, h.1, wanted, h.2)
 
-pub evade_check_next : (part : Part) (check later : EvadeCheck) (node : Node ℕ Skipped) (wanted after : ℕ) → ChecksOn evade_steps IsEvadeState part node check later → StaysOff check later
-    → after ≡ wanted - 1 + kids_of node → 0 < after → IsEvadeCheck check wanted → IsEvadeCheck later after
+pub evade_check_next : (part : Part) (check later : EvadeCheck) (node : Node ℕ Skipped)
+    (wanted after : ℕ) → ChecksOn evade_steps IsEvadeState part node check later
+    → StaysOff check later
+    → after ≡ wanted - 1 + kids_of node → 0 < after → IsEvadeCheck check wanted
+    → IsEvadeCheck later after
 evade_check_next part (Off p i) later node wanted after on off is some h = subst (λ (c : EvadeCheck). IsEvadeCheck c after) (sym (off p i refl)) tt
 evade_check_next part (On walk) later node wanted after on off is some h = by_later later (on walk refl h.0 h.1 wanted h.2)
   where
-    by_later : (later : EvadeCheck) → Follows (evade_steps walk.space) (IsEvadeState walk.space) walk.space h.0 part (h.1 ++ node ∷ []) later → IsEvadeCheck later after
+    by_later : (later : EvadeCheck)
+        → Follows (evade_steps walk.space) (IsEvadeState walk.space) walk.space h.0 part
+        (h.1 ++ node ∷ []) later → IsEvadeCheck later after
     by_later (Off p i) f = tt
     by_later (On w) f = (
       h.0,
@@ -89,12 +98,17 @@ evade_check_next part (On walk) later node wanted after on off is some h = by_la
       },
     )
 
-pub deck_check_next : (part : Part) (check later : DeckCheck) (node : Node Label Reason) (wanted after : ℕ) → ChecksOn (λ _. deck_steps) (λ _. IsPartial) part node check later → StaysOff check later
-    → after ≡ wanted - 1 + kids_of node → 0 < after → IsDeckCheck check wanted → IsDeckCheck later after
+pub deck_check_next : (part : Part) (check later : DeckCheck) (node : Node Label Reason)
+    (wanted after : ℕ) → ChecksOn (λ _. deck_steps) (λ _. IsPartial) part node check later
+    → StaysOff check later
+    → after ≡ wanted - 1 + kids_of node → 0 < after → IsDeckCheck check wanted
+    → IsDeckCheck later after
 deck_check_next part (Off p i) later node wanted after on off is some h = subst (λ (c : DeckCheck). IsDeckCheck c after) (sym (off p i refl)) tt
 deck_check_next part (On walk) later node wanted after on off is some h = by_later later (on walk refl h.0 h.1 wanted h.2)
   where
-    by_later : (later : DeckCheck) → Follows deck_steps IsPartial walk.space h.0 part (h.1 ++ node ∷ []) later → IsDeckCheck later after
+    by_later : (later : DeckCheck)
+        → Follows deck_steps IsPartial walk.space h.0 part (h.1 ++ node ∷ []) later
+        → IsDeckCheck later after
     by_later (Off p i) f = tt
     by_later (On w) f = (h.0, h.1 ++ node ∷ [], record { wants = rw is (wanted_more h.1 1 wanted node h.2.wants h.2.some); some = some; stood = f.1; seen = f.2 })
 
@@ -107,20 +121,27 @@ module _ (contests : List Contest) (rules : RuleSet) (deck : Ballots) where
   abbrev sought : Sought
   sought = own_sought contests deck.ballots
 
-  deck_fault_grows : (nodes : List (Node ℕ Skipped)) (node : Node ℕ Skipped) (part : Part) (i : ℕ) → IsDeckFault contests rules (with_tree nodes) part i → IsDeckFault contests rules (with_tree (nodes ++ node ∷ [])) part i
+  deck_fault_grows : (nodes : List (Node ℕ Skipped)) (node : Node ℕ Skipped) (part : Part) (i : ℕ)
+      → IsDeckFault contests rules (with_tree nodes) part i
+      → IsDeckFault contests rules (with_tree (nodes ++ node ∷ [])) part i
   deck_fault_grows nodes node parts.Deck i h = h
   deck_fault_grows nodes node parts.Rules i h = h
   deck_fault_grows nodes node parts.Robust i h = (h.0, fault_grows (evade_steps sought) (start sought) nodes (node ∷ []) i h.1)
   deck_fault_grows nodes node parts.Lower i h = h
   deck_fault_grows nodes node parts.License i h = h
 
-  pub robust_next : (nodes : List (Node ℕ Skipped)) (check later : EvadeCheck) (node : Node ℕ Skipped) (wanted : ℕ) → ChecksOn evade_steps IsEvadeState parts.Robust node check later → StaysOff check later
-      → wanted_after 1 nodes ≡ Some wanted → 0 < wanted → RobustSoFar contests rules deck nodes check → RobustSoFar contests rules deck (nodes ++ node ∷ []) later
+  pub robust_next : (nodes : List (Node ℕ Skipped)) (check later : EvadeCheck)
+      (node : Node ℕ Skipped) (wanted : ℕ)
+      → ChecksOn evade_steps IsEvadeState parts.Robust node check later → StaysOff check later
+      → wanted_after 1 nodes ≡ Some wanted → 0 < wanted
+      → RobustSoFar contests rules deck nodes check
+      → RobustSoFar contests rules deck (nodes ++ node ∷ []) later
   robust_next nodes (Off p i) later node wanted on off wants some h =
       subst (λ (c : EvadeCheck). RobustSoFar contests rules deck (nodes ++ node ∷ []) c) (sym (off p i refl)) (deck_fault_grows nodes node p i h)
   robust_next nodes (On walk) later node wanted on off wants some h = by_later later (subst (λ (s : Sought). Follows (evade_steps s) (IsEvadeState s) s (start sought) parts.Robust (nodes ++ node ∷ []) later) h.1.0 followed)
     where
-      followed : Follows (evade_steps walk.space) (IsEvadeState walk.space) walk.space (start sought) parts.Robust (nodes ++ node ∷ []) later
+      followed : Follows (evade_steps walk.space) (IsEvadeState walk.space) walk.space
+          (start sought) parts.Robust (nodes ++ node ∷ []) later
       followed = on walk refl (start sought) nodes wanted (record {
         wants = wants;
         some = some;
@@ -128,11 +149,15 @@ module _ (contests : List Contest) (rules : RuleSet) (deck : Ballots) where
         seen = h.1.2;
       })
 
-      by_later : (later : EvadeCheck) → Follows (evade_steps sought) (IsEvadeState sought) sought (start sought) parts.Robust (nodes ++ node ∷ []) later → RobustSoFar contests rules deck (nodes ++ node ∷ []) later
+      by_later : (later : EvadeCheck)
+          → Follows (evade_steps sought) (IsEvadeState sought) sought (start sought) parts.Robust
+          (nodes ++ node ∷ []) later → RobustSoFar contests rules deck (nodes ++ node ∷ []) later
       by_later (On w) f = (h.0, f)
       by_later (Off p i) f = subst (λ (q : Part). IsDeckFault contests rules (with_tree (nodes ++ node ∷ [])) q i) (sym f.0) (h.0, f.1)
 
-  pub robust_ends : (nodes : List (Node ℕ Skipped)) (check : EvadeCheck) → deck.targets ≡ target_count contests → wanted_after 1 nodes ≡ Some 0 → RobustSoFar contests rules deck nodes check
+  pub robust_ends : (nodes : List (Node ℕ Skipped)) (check : EvadeCheck)
+      → deck.targets ≡ target_count contests → wanted_after 1 nodes ≡ Some 0
+      → RobustSoFar contests rules deck nodes check
       → IsDeckAnswer contests rules (Some (with_tree nodes)) (fault_of check)
   robust_ends nodes (Off p i) targets wants h = (with_tree nodes, refl, h)
   robust_ends nodes (On walk) targets wants h =
@@ -145,7 +170,8 @@ module _ (contests : List Contest) (rules : RuleSet) (proved : Option Proved) (c
   abbrev root : PartialDeck
   root = lower_root contests rules (lower_of chosen size [])
 
-  parts_fault_grows : (nodes : List (Node Label Reason)) (node : Node Label Reason) (part : Part) (i : ℕ) → IsPartsFault contests rules proved (Some (lower_of chosen size nodes)) part i
+  parts_fault_grows : (nodes : List (Node Label Reason)) (node : Node Label Reason) (part : Part)
+      (i : ℕ) → IsPartsFault contests rules proved (Some (lower_of chosen size nodes)) part i
       → IsPartsFault contests rules proved (Some (lower_of chosen size (nodes ++ node ∷ []))) part i
   parts_fault_grows nodes node part i (inl fault) = inl fault
   parts_fault_grows nodes node part i (inr (holds, l, e, named, fault)) =
@@ -153,18 +179,27 @@ module _ (contests : List Contest) (rules : RuleSet) (proved : Option Proved) (c
       let own : IsFirstFault false deck_steps root nodes i = subst (λ (x : LowerPart). IsFirstFault false deck_steps (lower_root contests rules x) x.tree i) (sym same) fault in
       inr (holds, lower_of chosen size (nodes ++ node ∷ []), refl, named, fault_grows deck_steps root nodes (node ∷ []) i own)
 
-  pub lower_next : (nodes : List (Node Label Reason)) (check later : DeckCheck) (node : Node Label Reason) (wanted : ℕ) → ChecksOn (λ _. deck_steps) (λ _. IsPartial) parts.Lower node check later → StaysOff check later
-      → wanted_after 1 nodes ≡ Some wanted → 0 < wanted → LowerSoFar contests rules proved chosen size nodes check → LowerSoFar contests rules proved chosen size (nodes ++ node ∷ []) later
+  pub lower_next : (nodes : List (Node Label Reason)) (check later : DeckCheck)
+      (node : Node Label Reason) (wanted : ℕ)
+      → ChecksOn (λ _. deck_steps) (λ _. IsPartial) parts.Lower node check later
+      → StaysOff check later
+      → wanted_after 1 nodes ≡ Some wanted → 0 < wanted
+      → LowerSoFar contests rules proved chosen size nodes check
+      → LowerSoFar contests rules proved chosen size (nodes ++ node ∷ []) later
   lower_next nodes (Off p i) later node wanted on off wants some h =
       subst (λ (c : DeckCheck). LowerSoFar contests rules proved chosen size (nodes ++ node ∷ []) c) (sym (off p i refl)) (parts_fault_grows nodes node p i h)
   lower_next nodes (On walk) later node wanted on off wants some h =
       by_later later (on walk refl root nodes wanted (record { wants = wants; some = some; stood = h.1.1; seen = h.1.2 }))
     where
-      by_later : (later : DeckCheck) → Follows deck_steps IsPartial walk.space root parts.Lower (nodes ++ node ∷ []) later → LowerSoFar contests rules proved chosen size (nodes ++ node ∷ []) later
+      by_later : (later : DeckCheck)
+          → Follows deck_steps IsPartial walk.space root parts.Lower (nodes ++ node ∷ []) later
+          → LowerSoFar contests rules proved chosen size (nodes ++ node ∷ []) later
       by_later (On w) f = (h.0, (refl, f.1, f.2))
       by_later (Off p i) f = inr (h.0, lower_of chosen size (nodes ++ node ∷ []), refl, f.0, f.1)
 
-  pub lower_ends : (nodes : List (Node Label Reason)) (check : DeckCheck) → IsPart contests chosen → size ≤ 1024 → wanted_after 1 nodes ≡ Some 0 → LowerSoFar contests rules proved chosen size nodes check
+  pub lower_ends : (nodes : List (Node Label Reason)) (check : DeckCheck) → IsPart contests chosen
+      → size ≤ 1024 → wanted_after 1 nodes ≡ Some 0
+      → LowerSoFar contests rules proved chosen size nodes check
       → ArePartsAnswer contests rules proved (Some (lower_of chosen size nodes)) (fault_of check)
   lower_ends nodes (Off p i) is few wants h = h
   lower_ends nodes (On walk) is few wants h =

@@ -18,20 +18,23 @@ use Rattle.cert_fields.specs.TreeReading.{kids_of, wanted_after}
 use Rattle.cert_stream.specs.Walks.{IsStack, ComesTo, Stood}
 
 module _ {S B R : Type 0} (steps : Steps S B R) where
-  long_after : (s : S) (ss : List S) (n : Node B R) → length (after steps (s ∷ ss) n) ≡ length ss + kids_of n
+  long_after : (s : S) (ss : List S) (n : Node B R)
+      → length (after steps (s ∷ ss) n) ≡ length ss + kids_of n
   long_after s ss (Close r) = omega arith
   long_after s ss (Fork l k) = omega (arith, length-append (kids_from steps s l 0 k) ss, length-kids_from steps s l 0 k)
   long_after s ss Open = omega arith
 
   -- as many states are to come as trees are wanted
-  long_ahead : (ns : List (Node B R)) (ss : List S) (w left : ℕ) → wanted_after w ns ≡ Some left → length ss ≡ w → length (ahead steps ss ns) ≡ left
+  long_ahead : (ns : List (Node B R)) (ss : List S) (w left : ℕ) → wanted_after w ns ≡ Some left
+      → length ss ≡ w → length (ahead steps ss ns) ≡ left
   long_ahead [] ss w left e l = l ∙ same_Some w left e
   long_ahead (n ∷ ns) ss zero left e l = absurd (none-some left e)
   long_ahead (n ∷ ns) [] (suc w) left e l = absurd (omega (arith, l))
   long_ahead (n ∷ ns) (s ∷ ss) (suc w) left e l = long_ahead ns (after steps (s ∷ ss) n) (w + kids_of n) left e (omega (arith, long_after s ss n, l))
 
   -- a first fault of the front of a list is one of the list
-  pub fault_grows : (root : S) (nodes more : List (Node B R)) (i : ℕ) → IsFirstFault false steps root nodes i → IsFirstFault false steps root (nodes ++ more) i
+  pub fault_grows : (root : S) (nodes more : List (Node B R)) (i : ℕ)
+      → IsFirstFault false steps root nodes i → IsFirstFault false steps root (nodes ++ more) i
   fault_grows root nodes more i f =
       let within : i < length nodes = slice_get_within nodes i f.node f.is_node in
       let front : take i (nodes ++ more) ≡ take i nodes = take-append-le i nodes more (omega (arith, within)) in
@@ -45,8 +48,10 @@ module _ {S B R : Type 0} (steps : Steps S B R) where
       }
 
   -- a node that doesn't hold behind nodes that do
-  pub fault_behind : (root : S) (nodes : List (Node B R)) (node : Node B R) (here : S) (to_come : List S)
-      → EachPlace steps root nodes (λ _ s n. NodeHolds false steps s n) → ahead steps (root ∷ []) nodes ≡ here ∷ to_come → (NodeHolds false steps here node → ⊥)
+  pub fault_behind : (root : S) (nodes : List (Node B R)) (node : Node B R) (here : S)
+      (to_come : List S)
+      → EachPlace steps root nodes (λ _ s n. NodeHolds false steps s n)
+      → ahead steps (root ∷ []) nodes ≡ here ∷ to_come → (NodeHolds false steps here node → ⊥)
       → IsFirstFault false steps root (nodes ++ node ∷ []) (length nodes)
   fault_behind root nodes node here to_come each at fails =
       let front : take (length nodes) (nodes ++ node ∷ []) ≡ nodes = take_at nodes (node ∷ []) (length nodes) refl in
@@ -61,21 +66,29 @@ module _ {S B R : Type 0} (steps : Steps S B R) where
 
   module _ (own : S → Type 0) where
     -- a walk in a tree that is still wanted is at the state of the next node
-    pub open_at : (root : S) (nodes forks : List (Node B R)) (way : List Entry) (here : S) (wanted : ℕ) → wanted_after 1 nodes ≡ Some wanted → 0 < wanted → Stood steps own root nodes forks way here
-        → (to_come : List S) × (ahead steps (root ∷ []) nodes ≡ here ∷ to_come) × Stands steps own forks root (reverse way) here to_come
+    pub open_at : (root : S) (nodes forks : List (Node B R)) (way : List Entry) (here : S)
+        (wanted : ℕ) → wanted_after 1 nodes ≡ Some wanted → 0 < wanted
+        → Stood steps own root nodes forks way here
+        → (to_come : List S) × (ahead steps (root ∷ []) nodes ≡ here ∷ to_come)
+        × Stands steps own forks root (reverse way) here to_come
     open_at root nodes forks way here wanted e some stood =
         let many : length (ahead steps (root ∷ []) nodes) ≡ wanted = long_ahead nodes (root ∷ []) 1 wanted e refl in
         at_first (ahead steps (root ∷ []) nodes) stood.comes.0 stood.comes.1 (omega (arith, many, some))
       where
-        at_first : (ss : List S) (found : Bool) → Lands steps own forks root (reverse way) here found ss → 0 < length ss
-            → (to_come : List S) × (ss ≡ here ∷ to_come) × Stands steps own forks root (reverse way) here to_come
+        at_first : (ss : List S) (found : Bool)
+            → Lands steps own forks root (reverse way) here found ss → 0 < length ss
+            → (to_come : List S) × (ss ≡ here ∷ to_come)
+            × Stands steps own forks root (reverse way) here to_come
         at_first [] found h lt = absurd (omega (arith, lt))
         at_first (s ∷ ss) found h lt = (ss, ap (λ (x : S). x ∷ ss) (sym h.1), h.2)
 
     -- one more node that holds
-    pub stood_next : (root : S) (nodes forks later : List (Node B R)) (way on : List Entry) (here there : S) (node : Node B R) (to_come : List S)
-        → Stood steps own root nodes forks way here → ahead steps (root ∷ []) nodes ≡ here ∷ to_come → NodeHolds false steps here node
-        → ComesTo steps own later root (reverse on) there (after steps (here ∷ to_come) node) → IsStack later on
+    pub stood_next : (root : S) (nodes forks later : List (Node B R)) (way on : List Entry)
+        (here there : S) (node : Node B R) (to_come : List S)
+        → Stood steps own root nodes forks way here → ahead steps (root ∷ []) nodes ≡ here ∷ to_come
+        → NodeHolds false steps here node
+        → ComesTo steps own later root (reverse on) there (after steps (here ∷ to_come) node)
+        → IsStack later on
         → Stood steps own root (nodes ++ node ∷ []) later on there
     stood_next root nodes forks later way on here there node to_come stood at holds comes stack = record {
       each = each_snoc steps root nodes node here (λ _ s n. NodeHolds false steps s n) stood.each (ap (λ (ss : List S). slice_get ss 0) at) holds;

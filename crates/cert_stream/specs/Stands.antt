@@ -102,7 +102,8 @@ StandsAt (Done front fault) held all =
     × ArePartsAnswer front.shape front.rules proved lower fault
     × Reads all held (end_left (head_of front) front.verdict proved lower)
 
--- what a stream holds: where it stands, the bytes that it holds back, and the error that it answered
+-- what a stream holds: where it stands, the bytes that it holds back, and the error that it
+-- answered
 pub record Held : Type 0 where
   pub phase : Phase
   pub buffer : List ℕ

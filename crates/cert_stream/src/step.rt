@@ -8,11 +8,11 @@ ghost use Rattle.cert_stream.specs.Phases.{IsPhase, IsEvadeCheck, IsDeckCheck, r
 ghost use Rattle.cert_stream.specs.Stands.{Moves, Refuses, RobustSoFar, LowerSoFar, IsTail};
 
 use crate::front::Front;
-use crate::node::{node_of, wanted_behind};
+use crate::node::wanted_behind;
 use crate::phase::{Phase, behind_front, behind_lower, behind_robust};
 use crate::reading::front_of;
 use crate::walk::{Checking, Walk, check_node};
-use cert_fields::{part_list_of, rows_of};
+use cert_fields::{node_of, part_list_of, rows_of};
 use cert_types::{CertFault, Part};
 use close_rules::{Label, Reason};
 use deck_space::Decks;

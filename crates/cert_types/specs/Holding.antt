@@ -18,15 +18,16 @@ pub record PartsHold (contests : List Contest) (rules : RuleSet) (proved : Optio
   pub deck_holds : IfSome proved (IsProved contests rules)
   pub lower_holds : IfSome lower (IsLower contests rules)
 
--- the first fault of a deck with its tree: the deck breaks a rule; else a node of the tree doesn't hold
+-- the first fault of a deck with its tree: the deck breaks a rule; else a node of the tree doesn't
+-- hold
 abbrev pub IsDeckFault : List Contest → RuleSet → Proved → Part → ℕ → Type 0
 IsDeckFault contests rules p Rules i = ¬ Obeys contests rules p.deck.ballots × (i ≡ 0)
 IsDeckFault contests rules p Robust i =
     Obeys contests rules p.deck.ballots × IsRobustFault false contests p.deck.ballots p.robust i
 IsDeckFault contests rules p part i = ⊥
 
--- the first fault of a deck and a lower part: that of the deck; else a node of the lower part's tree
--- doesn't hold
+-- the first fault of a deck and a lower part: that of the deck; else a node of the lower part's
+-- tree doesn't hold
 abbrev pub IsPartsFault : List Contest → RuleSet → Option Proved → Option LowerPart → Part → ℕ
     → Type 0
 IsPartsFault contests rules proved lower part i =

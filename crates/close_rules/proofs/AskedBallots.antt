@@ -19,13 +19,15 @@ use Rattle.close_rules.specs.Ballots.{may_be_blank, may_be_overvoted, lacks_blan
 use Rattle.close_rules.specs.Totals.{can_overvote}
 use Rattle.close_rules.specs.Solution.{IsSolution}
 
-unmarked : (mark : Mark) (there : Bool) → Agrees mark there → there ≡ false → not (is_marked mark) ≡ true
+unmarked : (mark : Mark) (there : Bool) → Agrees mark there → there ≡ false
+    → not (is_marked mark) ≡ true
 unmarked Marked there agrees e = let bad : true ≡ false = sym agrees ∙ e in cc
 unmarked Unmarked there agrees e = refl
 unmarked Undecided there agrees e = refl
 
 -- the row of a blank ballot
-blank_row : (n : ℕ) (row : List Mark) (ballot : List Bool) → AreAlike n row ballot → is_blank ballot ≡ true → may_be_blank row ≡ true
+blank_row : (n : ℕ) (row : List Mark) (ballot : List Bool) → AreAlike n row ballot
+    → is_blank ballot ≡ true → may_be_blank row ≡ true
 blank_row n row ballot are h =
     list_all-from_AllPass (λ mark. not (is_marked mark)) row (λ t d lt.
     let t_in : t < n = omega (arith, lt, are.row_long) in
@@ -33,7 +35,8 @@ blank_row n row ballot are h =
     ap (λ (mark : Mark). not (is_marked mark)) (get_or_default row t d Undecided lt) ∙ unmarked (get_or row t Undecided) (get_or ballot t false) (are.agrees t t_in) none)
 
 -- too few blank ballots leave no solution
-pub blank_empty : (p : PartialDeck) (deck : List (List Bool)) → IsPartial p → IsSolution p deck → lacks_blank p ≡ true → ⊥
+pub blank_empty : (p : PartialDeck) (deck : List (List Bool)) → IsPartial p → IsSolution p deck
+    → lacks_blank p ≡ true → ⊥
 blank_empty p deck is solution h =
     let few = ltb-true (count_by may_be_blank p.marks) p.rules.blank h in
     let blank = counts_le is_blank may_be_blank deck p.marks [] [] (solution.completion.size ∙ sym is.height)
@@ -41,7 +44,8 @@ blank_empty p deck is solution h =
     omega (arith, few, blank, solution.good.obeys.blank)
 
 -- too few overvoted ballots leave no solution
-pub over_empty : (p : PartialDeck) (deck : List (List Bool)) (c : ℕ) → IsPartial p → IsSolution p deck → lacks_overvoted p c ≡ true → ⊥
+pub over_empty : (p : PartialDeck) (deck : List (List Bool)) (c : ℕ) → IsPartial p
+    → IsSolution p deck → lacks_overvoted p c ≡ true → ⊥
 over_empty p deck c is solution h =
     let contests = p.contests in
     let limit = (contest_at contests c).limit in

@@ -33,13 +33,17 @@ abbrev votes_in : List Contest → ℕ → List Bool → ℕ
 votes_in contests c ballot = count_by (λ t. votes_for contests ballot t) (targets_of contests c)
 
 -- the totals of a contest are its votes on all ballots
-pub total_votes : (contests : List Contest) (deck : List (List Bool)) (c : ℕ) → (ts : List ℕ) → ((t : ℕ) → own_total contests deck t ≡ count_by (λ ballot. votes_for contests ballot t) deck)
-    → sum (map (own_total contests deck) ts) ≡ sum_by (λ ballot. count_by (λ t. votes_for contests ballot t) ts) deck
+pub total_votes : (contests : List Contest) (deck : List (List Bool)) (c : ℕ) → (ts : List ℕ)
+    → ((t : ℕ) → own_total contests deck t ≡ count_by (λ ballot. votes_for contests ballot t) deck)
+    → sum (map (own_total contests deck) ts)
+    ≡ sum_by (λ ballot. count_by (λ t. votes_for contests ballot t) ts) deck
 total_votes contests deck c ts own =
     sum-map (own_total contests deck) ts ∙ (sums_agree (own_total contests deck) (λ t. count_by (λ ballot. votes_for contests ballot t) deck) ts own ∙ sums_exchanged (λ ballot t. votes_for contests ballot t) ts deck)
 
 -- no more than the targets that it marks
-votes_marks : (contests : List Contest) (ballot : List Bool) (c : ℕ) → c < length contests → length ballot ≡ target_count contests → votes_in contests c ballot ≤ mark_count contests ballot c
+votes_marks : (contests : List Contest) (ballot : List Bool) (c : ℕ) → c < length contests
+    → length ballot ≡ target_count contests
+    → votes_in contests c ballot ≤ mark_count contests ballot c
 votes_marks contests ballot c h long =
     let marks : mark_count contests ballot c ≡ count_by (λ t. is_marked ballot t) (targets_of contests c) = ap (count_by (λ (m : Bool). m)) (marks_are contests ballot c h long) ∙ count_map (λ (t : ℕ). is_marked ballot t) (λ (m : Bool). m) (targets_of contests c) in
     let few = counts_le (λ (t : ℕ). votes_for contests ballot t) (λ (t : ℕ). is_marked ballot t) (targets_of contests c) (targets_of contests c) 0 0 refl
@@ -47,7 +51,9 @@ votes_marks contests ballot c h long =
     omega (arith, marks, few)
 
 -- a ballot with a vote in a contest votes in it
-some_vote : (contests : List Contest) (ballot : List Bool) (c : ℕ) → c < length contests → length ballot ≡ target_count contests → 0 < votes_in contests c ballot → is_voting contests c ballot ≡ true
+some_vote : (contests : List Contest) (ballot : List Bool) (c : ℕ) → c < length contests
+    → length ballot ≡ target_count contests → 0 < votes_in contests c ballot
+    → is_voting contests c ballot ≡ true
 some_vote contests ballot c h long some =
     let found = one_passes (λ t. votes_for contests ballot t) (first_target contests c) (contest_at contests c).targets (omega (arith, some)) in
     let next = first_next contests c h in
@@ -55,7 +61,9 @@ some_vote contests ballot c h long some =
     subst (λ (x : ℕ). is_voting contests x ballot ≡ true) of (vote_is_voting contests ballot found.0 (omega (arith, found.2, next, first_le contests (c + 1))) long found.3)
 
 -- the votes of a ballot are possible in the row that it agrees with
-votes_possible : (contests : List Contest) (row : List Mark) (ballot : List Bool) (c : ℕ) → c < length contests → AreAlike (target_count contests) row ballot → votes_in contests c ballot ≤ most_votes contests c row
+votes_possible : (contests : List Contest) (row : List Mark) (ballot : List Bool) (c : ℕ)
+    → c < length contests → AreAlike (target_count contests) row ballot
+    → votes_in contests c ballot ≤ most_votes contests c row
 votes_possible contests row ballot c h are = elim (cases_lt 0 (votes_in contests c ballot)) [
   | inr none ↦ omega (arith, none)
   | inl some ↦
@@ -68,21 +76,26 @@ votes_possible contests row ballot c h are = elim (cases_lt 0 (votes_in contests
 ]
 
 -- no row gives more votes than the limit
-pub few_possible : (contests : List Contest) (row : List Mark) (c : ℕ) → most_votes contests c row ≤ (contest_at contests c).limit
+pub few_possible : (contests : List Contest) (row : List Mark) (c : ℕ)
+    → most_votes contests c row ≤ (contest_at contests c).limit
 few_possible contests row c = by_test (nat_lt (contest_at contests c).limit (marked_in contests row c))
   where
-    by_test : (b : Bool) → cond b 0 (min (contest_at contests c).limit (possible_in contests row c)) ≤ (contest_at contests c).limit
+    by_test : (b : Bool) → cond b 0 (min (contest_at contests c).limit (possible_in contests row c))
+        ≤ (contest_at contests c).limit
     by_test true = omega arith
     by_test false = omega arith
 
 -- numbers made from a list, each at most n
-pub made_up_to : {X : Type 0} (f : X → ℕ) (n : ℕ) (d : X) (xs : List X) → ((i : ℕ) → i < length xs → f (get_or xs i d) ≤ n) → AreUpTo n (map f xs)
+pub made_up_to : {X : Type 0} (f : X → ℕ) (n : ℕ) (d : X) (xs : List X)
+    → ((i : ℕ) → i < length xs → f (get_or xs i d) ≤ n) → AreUpTo n (map f xs)
 made_up_to f n d [] h = tt
 made_up_to f n d (x ∷ xs) h = (h 0 (omega arith), made_up_to f n d xs (λ i lt. h (suc i) (omega (arith, lt))))
 
 -- at each level
-level_le : (p : PartialDeck) (deck : List (List Bool)) (c level : ℕ) → IsPartial p → IsSolution p deck → c < length p.contests
-    → count_above level (map (votes_in p.contests c) deck) ≤ min (most_voting p c) (count_above level (map (most_votes p.contests c) p.marks))
+level_le : (p : PartialDeck) (deck : List (List Bool)) (c level : ℕ) → IsPartial p
+    → IsSolution p deck → c < length p.contests
+    → count_above level (map (votes_in p.contests c) deck)
+    ≤ min (most_voting p c) (count_above level (map (most_votes p.contests c) p.marks))
 level_le p deck c level is solution h =
     let contests = p.contests in
     let votes = count_map (votes_in contests c) (λ (n : ℕ). nat_lt level n) deck in
@@ -96,12 +109,15 @@ level_le p deck c level is solution h =
     omega (arith, votes, can, voting, possible, few_voting p deck c solution h)
 
 -- the capacity by levels
-pub capacity_by_levels : (p : PartialDeck) (c : ℕ) → levels (contest_at p.contests c).limit (most_voting p c) (map (most_votes p.contests c) p.marks) ≡ capacity p c
+pub capacity_by_levels : (p : PartialDeck) (c : ℕ)
+    → levels (contest_at p.contests c).limit (most_voting p c)
+    (map (most_votes p.contests c) p.marks) ≡ capacity p c
 capacity_by_levels p c =
     largest_by_levels (contest_at p.contests c).limit (most_voting p c) (map (most_votes p.contests c) p.marks) (made_up_to (most_votes p.contests c) (contest_at p.contests c).limit [] p.marks (λ j lt. few_possible p.contests (get_or p.marks j []) c))
 
 -- the votes of a contest
-pub votes_fit : (p : PartialDeck) (deck : List (List Bool)) (c : ℕ) → IsPartial p → IsSolution p deck → c < length p.contests → sum_by (votes_in p.contests c) deck ≤ capacity p c
+pub votes_fit : (p : PartialDeck) (deck : List (List Bool)) (c : ℕ) → IsPartial p
+    → IsSolution p deck → c < length p.contests → sum_by (votes_in p.contests c) deck ≤ capacity p c
 votes_fit p deck c is solution h =
     let contests = p.contests in
     let limit = (contest_at contests c).limit in
@@ -113,7 +129,8 @@ votes_fit p deck c is solution h =
     omega (arith, sum-map (votes_in contests c) deck, sum_by_levels limit numbers up_to, each, capacity_by_levels p c)
 
 -- least totals of more votes than a contest can have leave no solution
-pub capacity_empty : (p : PartialDeck) (deck : List (List Bool)) (c : ℕ) → IsPartial p → IsSolution p deck → has_no_capacity p c ≡ true → ⊥
+pub capacity_empty : (p : PartialDeck) (deck : List (List Bool)) (c : ℕ) → IsPartial p
+    → IsSolution p deck → has_no_capacity p c ≡ true → ⊥
 capacity_empty p deck c is solution h =
     let contests = p.contests in
     let parts = and_parts (nat_lt c (length contests)) (nat_lt (capacity p c) (sum (least_totals p c))) h in

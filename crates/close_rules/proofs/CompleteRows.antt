@@ -26,7 +26,8 @@ pub record IsDecidedRow (n : ℕ) (row : List Mark) : Type 0 where
   pub decided : (t : ℕ) → t < n → is_undecided (get_or row t Undecided) ≡ false
 
 -- the rows of a complete partial deck
-pub decided_row : (p : PartialDeck) (j : ℕ) (d : List Mark) → IsPartial p → IsComplete p → j < p.ballots → IsDecidedRow (target_count p.contests) (get_or p.marks j d)
+pub decided_row : (p : PartialDeck) (j : ℕ) (d : List Mark) → IsPartial p → IsComplete p
+    → j < p.ballots → IsDecidedRow (target_count p.contests) (get_or p.marks j d)
 decided_row p j d is complete h =
     let same : get_or p.marks j d ≡ get_or p.marks j [] = get_or_default p.marks j d [] (omega (arith, h, is.height)) in
     record {
@@ -40,7 +41,9 @@ marked_or_not Unmarked h = refl
 marked_or_not Undecided h = cc
 
 -- as many targets are marked as may be
-pub possible_is : (contests : List Contest) (row : List Mark) (c : ℕ) → IsDecidedRow (target_count contests) row → possible_in contests row c ≡ marked_in contests row c
+pub possible_is : (contests : List Contest) (row : List Mark) (c : ℕ)
+    → IsDecidedRow (target_count contests) row
+    → possible_in contests row c ≡ marked_in contests row c
 possible_is contests row c is =
     let first = first_target contests c in
     let last = first_target contests (c + 1) in
@@ -56,7 +59,9 @@ same_tests : (a b : ℕ) → nat_le b a ≡ not (nat_lt a b)
 same_tests a b = grind (arith, nat_tests)
 
 -- a row surely votes for the targets that its ballot votes for
-sure_is : (contests : List Contest) (row : List Mark) (t : ℕ) → t < target_count contests → IsDecidedRow (target_count contests) row → surely_votes_for contests row t ≡ votes_for contests (map is_marked row) t
+sure_is : (contests : List Contest) (row : List Mark) (t : ℕ) → t < target_count contests
+    → IsDecidedRow (target_count contests) row
+    → surely_votes_for contests row t ≡ votes_for contests (map is_marked row) t
 sure_is contests row t h is =
     let c = contest_of contests t in
     let mark : is_marked (get_or row t Undecided) ≡ tally.is_marked (map is_marked row) t = sym (get_or-map is_marked row t Undecided false (omega (arith, h, is.long))) in
@@ -64,7 +69,9 @@ sure_is contests row t h is =
     (λ i. mark i && nat_le (count i) (limit_of contests t)) ∙ ap (λ (b : Bool). tally.is_marked (map is_marked row) t && b) (same_tests (limit_of contests t) (mark_count contests (map is_marked row) c))
 
 -- and possibly
-possible_vote_is : (contests : List Contest) (row : List Mark) (t : ℕ) → t < target_count contests → 1 ≤ limit_of contests t → IsDecidedRow (target_count contests) row → possibly_votes_for contests row t ≡ votes_for contests (map is_marked row) t
+possible_vote_is : (contests : List Contest) (row : List Mark) (t : ℕ) → t < target_count contests
+    → 1 ≤ limit_of contests t → IsDecidedRow (target_count contests) row
+    → possibly_votes_for contests row t ≡ votes_for contests (map is_marked row) t
 possible_vote_is contests row t h some is =
     let c = contest_of contests t in
     let here : may_be_marked (get_or row t Undecided) ≡ is_marked (get_or row t Undecided) = marked_or_not (get_or row t Undecided) (is.decided t h) in
@@ -76,26 +83,31 @@ possible_vote_is contests row t h some is =
     fits : (a : ℕ) → nat_lt (a - 1) (limit_of contests t) ≡ not (nat_lt (limit_of contests t) a)
     fits a = grind (arith, nat_tests, some)
 
-    by_mark : (b : Bool) (a : ℕ) → (b && nat_lt (a - cond b 1 0) (limit_of contests t)) ≡ (b && not (nat_lt (limit_of contests t) a))
+    by_mark : (b : Bool) (a : ℕ) → (b && nat_lt (a - cond b 1 0) (limit_of contests t))
+        ≡ (b && not (nat_lt (limit_of contests t) a))
     by_mark true a = fits a
     by_mark false a = refl
 
 -- the sure and the possible votes of a target are its total
-pub sure_total : (p : PartialDeck) (t : ℕ) → IsPartial p → IsComplete p → t < target_count p.contests → sure_votes p t ≡ own_total p.contests (shown p) t
+pub sure_total : (p : PartialDeck) (t : ℕ) → IsPartial p → IsComplete p
+    → t < target_count p.contests → sure_votes p t ≡ own_total p.contests (shown p) t
 sure_total p t is complete h =
     count_alike (λ (row : List Mark). surely_votes_for p.contests row t) (λ (row : List Mark). votes_for p.contests (map is_marked row) t) p.marks
     (λ j d lt. sure_is p.contests (get_or p.marks j d) t h (decided_row p j d is complete (omega (arith, lt, is.height))))
     ∙ shown_own p t is
 
-pub possible_total : (p : PartialDeck) (t : ℕ) → IsPartial p → IsComplete p → t < target_count p.contests → possible_votes p t ≡ own_total p.contests (shown p) t
+pub possible_total : (p : PartialDeck) (t : ℕ) → IsPartial p → IsComplete p
+    → t < target_count p.contests → possible_votes p t ≡ own_total p.contests (shown p) t
 possible_total p t is complete h =
     count_alike (λ (row : List Mark). possibly_votes_for p.contests row t) (λ (row : List Mark). votes_for p.contests (map is_marked row) t) p.marks
     (λ j d lt. possible_vote_is p.contests (get_or p.marks j d) t h (limit_some p.contests t is.shape h) (decided_row p j d is complete (omega (arith, lt, is.height))))
     ∙ shown_own p t is
 
 -- the least and the greatest total of a target are its total, if the bounds are
-pub lo_is : (p : PartialDeck) (t : ℕ) → IsPartial p → IsComplete p → t < target_count p.contests → lo p t ≡ max (bounds_at p t).low (own_total p.contests (shown p) t)
+pub lo_is : (p : PartialDeck) (t : ℕ) → IsPartial p → IsComplete p → t < target_count p.contests
+    → lo p t ≡ max (bounds_at p t).low (own_total p.contests (shown p) t)
 lo_is p t is complete h = ap (max (bounds_at p t).low) (sure_total p t is complete h)
 
-pub hi_is : (p : PartialDeck) (t : ℕ) → IsPartial p → IsComplete p → t < target_count p.contests → hi p t ≡ min (bounds_at p t).high (own_total p.contests (shown p) t)
+pub hi_is : (p : PartialDeck) (t : ℕ) → IsPartial p → IsComplete p → t < target_count p.contests
+    → hi p t ≡ min (bounds_at p t).high (own_total p.contests (shown p) t)
 hi_is p t is complete h = ap (min (bounds_at p t).high) (possible_total p t is complete h)

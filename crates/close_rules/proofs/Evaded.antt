@@ -25,7 +25,10 @@ contest_decided p c is complete =
     list_all-from_AllPass (λ row. list_all (λ mark. not (is_undecided mark)) (marks_in p.contests row c)) p.marks
     (λ j d lt. all_decided (marks_in p.contests (get_or p.marks j d) c) (sym (possible_is p.contests (get_or p.marks j d) c (decided_row p j d is complete (omega (arith, lt, is.height))))))
 
-pub evaded : (p : PartialDeck) (s : List ℕ) → IsPartial p → IsComplete p → IsMisassignment (target_count p.contests) s → (s ≡ identity (target_count p.contests) → ⊥) → report p.contests (shown p) s ≡ report p.contests (shown p) (identity (target_count p.contests)) → evades p s ≡ true
+pub evaded : (p : PartialDeck) (s : List ℕ) → IsPartial p → IsComplete p
+    → IsMisassignment (target_count p.contests) s → (s ≡ identity (target_count p.contests) → ⊥)
+    → report p.contests (shown p) s
+    ≡ report p.contests (shown p) (identity (target_count p.contests)) → evades p s ≡ true
 evaded p s is complete mis other same =
     let n = target_count p.contests in
     let contests = each_number (keeps_contest p s) 0 (length p.contests)
@@ -39,6 +42,8 @@ evaded p s is complete mis other same =
     or_right (is_left p.contests s c) (keeps_totals p s c) (λ x. contest_decided p c is complete x && totals x)) in
     by_answer (list_all (stays s) (range_with_len 0 n)) refl contests
   where
-    by_answer : (b : Bool) → list_all (stays s) (range_with_len 0 (target_count p.contests)) ≡ b → list_all (keeps_contest p s) (range_with_len 0 (length p.contests)) ≡ true → evades p s ≡ true
+    by_answer : (b : Bool) → list_all (stays s) (range_with_len 0 (target_count p.contests)) ≡ b
+        → list_all (keeps_contest p s) (range_with_len 0 (length p.contests)) ≡ true
+        → evades p s ≡ true
     by_answer true e contests = absurd (other (stay_identity (target_count p.contests) s mis.long e ∙ ap identity mis.long))
     by_answer false e contests = λ x. is_passed (target_count p.contests) s mis x && (not (e x) && contests x)

@@ -1,4 +1,5 @@
--- A misassignment that changes no total of the decided contests that it touches changes none of a solution.
+-- A misassignment that changes no total of the decided contests that it touches changes none of a
+-- solution.
 use Rattle.std.proofs.Common.{◌≡◌, ◌+◌, ◌-◌, ◌<◌, ◌&&◌, ℕ, Bool, true, false, not, List, [], length, get_or, refl, ap, sym, ◌∙◌, arith}
 use Rattle.std.specs.List.{list_all, range_with_len}
 use Rattle.std.proofs.lemmas.List.Sums.{AllPass-from_list_all}
@@ -30,13 +31,15 @@ use Rattle.close_rules.specs.Solution.{IsSolution}
 use Rattle.close_rules.proofs.Misassigned.{all_stay}
 use Rattle.close_rules.proofs.Touched.{votes_alike, Touches, touches, at_target}
 
-decided_mark : (mark : Mark) (there : Bool) → Agrees mark there → not (is_undecided mark) ≡ true → is_marked mark ≡ there
+decided_mark : (mark : Mark) (there : Bool) → Agrees mark there → not (is_undecided mark) ≡ true
+    → is_marked mark ≡ there
 decided_mark Marked there agrees e = sym agrees
 decided_mark Unmarked there agrees e = sym agrees
 decided_mark Undecided there agrees e = cc
 
 -- where each mark of a contest is decided, the marks that are shown are the deck's
-same_mark : (p : PartialDeck) (deck : List (List Bool)) (j v : ℕ) → IsPartial p → IsSolution p deck → j < p.ballots → v < target_count p.contests → is_decided p (contest_of p.contests v) ≡ true
+same_mark : (p : PartialDeck) (deck : List (List Bool)) (j v : ℕ) → IsPartial p → IsSolution p deck
+    → j < p.ballots → v < target_count p.contests → is_decided p (contest_of p.contests v) ≡ true
     → tally.is_marked (get_or deck j []) v ≡ tally.is_marked (get_or (shown p) j []) v
 same_mark p deck j v is solution h k decided =
     let contests = p.contests in
@@ -55,7 +58,9 @@ same_mark p deck j v is solution h k decided =
     sym (shown_mark p j v is h k ∙ decided_mark (mark_at p j v) (get_or (get_or deck j []) v false) (alike.agrees v k) known)
 
 -- each total of a solution is kept
-kept_total : (p : PartialDeck) (deck : List (List Bool)) (s : List ℕ) (u : ℕ) → IsPartial p → IsSolution p deck → Touches p s → u < target_count p.contests → total p.contests deck s u ≡ own_total p.contests deck u
+kept_total : (p : PartialDeck) (deck : List (List Bool)) (s : List ℕ) (u : ℕ) → IsPartial p
+    → IsSolution p deck → Touches p s → u < target_count p.contests
+    → total p.contests deck s u ≡ own_total p.contests deck u
 kept_total p deck s u is solution touches h = by_contest (is_left p.contests s (contest_of p.contests u)) refl
   where
     n : ℕ
@@ -64,14 +69,20 @@ kept_total p deck s u is solution touches h = by_contest (is_left p.contests s (
     read_long : (ballot : List Bool) → length (reading ballot s) ≡ target_count p.contests
     read_long ballot = reading_long ballot s ∙ touches.is.long
 
-    decided_at : (v : ℕ) → v < target_count p.contests → is_left p.contests s (contest_of p.contests v) ≡ false → is_decided p (contest_of p.contests v) ≡ true
+    decided_at : (v : ℕ) → v < target_count p.contests
+        → is_left p.contests s (contest_of p.contests v) ≡ false
+        → is_decided p (contest_of p.contests v) ≡ true
     decided_at v lt left = (and_parts (is_decided p (contest_of p.contests v)) (list_all (keeps_total p s) (targets_of p.contests (contest_of p.contests v))) (touches.kept v lt left)).0
 
-    -- a target of a contest that is left has its own source, so the source of another is of one that isn't
-    source_touched : (v : ℕ) → v < target_count p.contests → is_left p.contests s (contest_of p.contests v) ≡ false → is_left p.contests s (contest_of p.contests (source s v)) ≡ false
+    -- a target of a contest that is left has its own source, so the source of another is of one
+    -- that isn't
+    source_touched : (v : ℕ) → v < target_count p.contests
+        → is_left p.contests s (contest_of p.contests v) ≡ false
+        → is_left p.contests s (contest_of p.contests (source s v)) ≡ false
     source_touched v lt left = by_answer (is_left p.contests s (contest_of p.contests (source s v))) refl
       where
-        by_answer : (b : Bool) → is_left p.contests s (contest_of p.contests (source s v)) ≡ b → is_left p.contests s (contest_of p.contests (source s v)) ≡ false
+        by_answer : (b : Bool) → is_left p.contests s (contest_of p.contests (source s v)) ≡ b
+            → is_left p.contests s (contest_of p.contests (source s v)) ≡ false
         by_answer false e = e
         by_answer true e =
             let within = source_within (target_count p.contests) s touches.is v lt in
@@ -79,7 +90,8 @@ kept_total p deck s u is solution touches h = by_contest (is_left p.contests s (
             let same : source s v ≡ v = apart_of (target_count p.contests) s (source s v) v touches.is within lt fixed in
             ap (λ (x : ℕ). is_left p.contests s (contest_of p.contests x)) same ∙ left
 
-    by_contest : (b : Bool) → is_left p.contests s (contest_of p.contests u) ≡ b → total p.contests deck s u ≡ own_total p.contests deck u
+    by_contest : (b : Bool) → is_left p.contests s (contest_of p.contests u) ≡ b
+        → total p.contests deck s u ≡ own_total p.contests deck u
     by_contest true left =
         count_alike (λ (ballot : List Bool). votes_for p.contests (reading ballot s) u) (λ (ballot : List Bool). votes_for p.contests (reading ballot (identity (target_count p.contests))) u) deck
         (λ j d lt.
@@ -112,7 +124,8 @@ kept_total p deck s u is solution touches h = by_contest (is_left p.contests s (
         read ∙ (kept ∙ sym own)
 
 -- a misassignment that evades leaves no solution
-pub evade_empty : (p : PartialDeck) (deck : List (List Bool)) (s : List ℕ) → IsPartial p → IsSolution p deck → evades p s ≡ true → ⊥
+pub evade_empty : (p : PartialDeck) (deck : List (List Bool)) (s : List ℕ) → IsPartial p
+    → IsSolution p deck → evades p s ≡ true → ⊥
 evade_empty p deck s is solution h =
     let n = target_count p.contests in
     let known = touches p s h in

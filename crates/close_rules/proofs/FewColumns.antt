@@ -21,11 +21,15 @@ all_counted [] = refl
 all_counted (n ∷ ns) = omega (arith, sum_by-cons (λ (m : ℕ). cond true 1 0) n ns, all_counted ns)
 
 -- a number of a range that passes a test
-pub one_passes : (test : ℕ → Bool) (a n : ℕ) → 1 ≤ count_by test (range_with_len a n) → (u : ℕ) × (a ≤ u) × (u < a + n) × (test u ≡ true)
+pub one_passes : (test : ℕ → Bool) (a n : ℕ) → 1 ≤ count_by test (range_with_len a n)
+    → (u : ℕ) × (a ≤ u) × (u < a + n) × (test u ≡ true)
 one_passes test a zero h = absurd (omega (arith, h))
 one_passes test a (suc n) h = by_test (test a) refl (one_passes test (a + 1) n)
   where
-    by_test : (b : Bool) → test a ≡ b → (1 ≤ count_by test (range_with_len (a + 1) n) → (u : ℕ) × (a + 1 ≤ u) × (u < a + 1 + n) × (test u ≡ true)) → (u : ℕ) × (a ≤ u) × (u < a + suc n) × (test u ≡ true)
+    by_test : (b : Bool) → test a ≡ b
+        → (1 ≤ count_by test (range_with_len (a + 1) n)
+        → (u : ℕ) × (a + 1 ≤ u) × (u < a + 1 + n) × (test u ≡ true))
+        → (u : ℕ) × (a ≤ u) × (u < a + suc n) × (test u ≡ true)
     by_test true e later = (a, omega arith, omega arith, e)
     by_test false e later =
         let none : ◌≡◌ {A = ℕ} (cond (test a) 1 0) 0 = ap (λ (b : Bool). cond b 1 0) e in
@@ -42,11 +46,14 @@ pub record AreSame (test : ℕ → Bool) (a n : ℕ) (deck : List (List Bool)) :
   pub passes : (test first ≡ true) × (test second ≡ true)
   pub same : All (λ ballot. is_marked ballot first ≡ is_marked ballot second) deck
 
-two_pass : (test : ℕ → Bool) (a n : ℕ) → 2 ≤ count_by test (range_with_len a n) → AreSame test a n []
+two_pass : (test : ℕ → Bool) (a n : ℕ) → 2 ≤ count_by test (range_with_len a n)
+    → AreSame test a n []
 two_pass test a zero h = absurd (omega (arith, h))
 two_pass test a (suc n) h = by_test (test a) refl (two_pass test (a + 1) n)
   where
-    by_test : (b : Bool) → test a ≡ b → (2 ≤ count_by test (range_with_len (a + 1) n) → AreSame test (a + 1) n []) → AreSame test a (suc n) []
+    by_test : (b : Bool) → test a ≡ b
+        → (2 ≤ count_by test (range_with_len (a + 1) n) → AreSame test (a + 1) n [])
+        → AreSame test a (suc n) []
     by_test true e later =
         let one : ◌≡◌ {A = ℕ} (cond (test a) 1 0) 1 = ap (λ (b : Bool). cond b 1 0) e in
         let found = one_passes test (a + 1) n (omega (arith, h, one, sum_by-cons (λ (m : ℕ). cond (test m) 1 0) a (range_with_len (a + 1) n))) in
@@ -73,7 +80,9 @@ two_pass test a (suc n) h = by_test (test a) refl (two_pass test (a + 1) n)
         }
 
 -- one more ballot, on which the targets that pass have the same mark
-with_ballot : (test half : ℕ → Bool) (n : ℕ) (ballot : List Bool) (deck : List (List Bool)) → (mark : Bool) → ((u : ℕ) → half u ≡ true → (test u ≡ true) × (is_marked ballot u ≡ mark)) → AreSame half 0 n deck → AreSame test 0 n (ballot ∷ deck)
+with_ballot : (test half : ℕ → Bool) (n : ℕ) (ballot : List Bool) (deck : List (List Bool))
+    → (mark : Bool) → ((u : ℕ) → half u ≡ true → (test u ≡ true) × (is_marked ballot u ≡ mark))
+    → AreSame half 0 n deck → AreSame test 0 n (ballot ∷ deck)
 with_ballot test half n ballot deck mark tell found =
     let first = tell found.first found.passes.0 in
     let second = tell found.second found.passes.1 in
@@ -88,7 +97,8 @@ with_ballot test half n ballot deck mark tell found =
     }
 
 -- of more targets than there are columns on the ballots of a deck, two are alike
-pub two_alike : (n : ℕ) (deck : List (List Bool)) (test : ℕ → Bool) → 2 ^ length deck < count_by test (range_with_len 0 n) → AreSame test 0 n deck
+pub two_alike : (n : ℕ) (deck : List (List Bool)) (test : ℕ → Bool)
+    → 2 ^ length deck < count_by test (range_with_len 0 n) → AreSame test 0 n deck
 two_alike n [] test h = two_pass test 0 n (omega (arith, h))
 two_alike n (ballot ∷ deck) test h = elim (cases_lt (2 ^ length deck) (count_by (λ u. test u && is_marked ballot u) (range_with_len 0 n))) [
   | inl many ↦ with_ballot test (λ u. test u && is_marked ballot u) n ballot deck true (λ u passes. and_parts (test u) (is_marked ballot u) passes) (two_alike n deck (λ u. test u && is_marked ballot u) many)

@@ -28,7 +28,8 @@ use Rattle.close_rules.specs.Solution.{IsSolution}
 use Rattle.close_rules.proofs.Passed.{at_number}
 
 -- the totals of a contest, one by one
-pub totals_are : (contests : List Contest) (deck : List (List Bool)) (c : ℕ) → c < length contests → totals_in contests deck c ≡ map (own_total contests deck) (targets_of contests c)
+pub totals_are : (contests : List Contest) (deck : List (List Bool)) (c : ℕ) → c < length contests
+    → totals_in contests deck c ≡ map (own_total contests deck) (targets_of contests c)
 totals_are contests deck c h =
     let n = (contest_at contests c).targets in
     let first = first_target contests c in
@@ -44,7 +45,9 @@ totals_are contests deck c h =
     ∙ sym (get_or-map-range_with_len (own_total contests deck) first n i (first + i) d i_in refl)))
 
 -- the totals that are known are those of the deck
-lows_are : (p : PartialDeck) (deck : List (List Bool)) (c : ℕ) → IsPartial p → IsSolution p deck → c < length p.contests → is_fixed p c ≡ true → lows p c ≡ map (own_total p.contests deck) (targets_of p.contests c)
+lows_are : (p : PartialDeck) (deck : List (List Bool)) (c : ℕ) → IsPartial p → IsSolution p deck
+    → c < length p.contests → is_fixed p c ≡ true
+    → lows p c ≡ map (own_total p.contests deck) (targets_of p.contests c)
 lows_are p deck c is solution h fixed =
     let n = (contest_at p.contests c).targets in
     let first = first_target p.contests c in
@@ -72,7 +75,8 @@ same_shape c d h =
     let targets = eqb-true c.targets d.targets parts.1 in
     λ i. record { limit = limits i; targets = targets i }
 
-are_known : (p : PartialDeck) (deck : List (List Bool)) (c d : ℕ) → IsPartial p → IsSolution p deck → are_comparable p c d ≡ true → AreKnown p deck c d
+are_known : (p : PartialDeck) (deck : List (List Bool)) (c d : ℕ) → IsPartial p → IsSolution p deck
+    → are_comparable p c d ≡ true → AreKnown p deck c d
 are_known p deck c d is solution h =
     let contests = p.contests in
     let shape = has_shape_of (contest_at contests c) (contest_at contests d) in
@@ -103,7 +107,8 @@ compares_greater Equal h = cc
 compares_greater Greater h = refl
 
 -- two contests of one shape with the same totals leave no solution
-pub twins_empty : (p : PartialDeck) (deck : List (List Bool)) (c d : ℕ) → IsPartial p → IsSolution p deck → are_twins p c d ≡ true → ⊥
+pub twins_empty : (p : PartialDeck) (deck : List (List Bool)) (c d : ℕ) → IsPartial p
+    → IsSolution p deck → are_twins p c d ≡ true → ⊥
 twins_empty p deck c d is solution h =
     let contests = p.contests in
     let parts = and_parts (are_comparable p c d) (is_eq (slice_cmp nat_cmp (lows p c) (lows p d))) h in
@@ -117,7 +122,8 @@ twins_empty p deck c d is solution h =
     ∙ get_or-map-range_with_len (own_total contests deck) (first_target contests d) (contest_at contests d).targets i (first_target contests d + i) 0 (omega (arith, i_in, ap (λ (x : Contest). x.targets) known.shape)) refl))
 
 -- two contests of one shape, the earlier one with the greater totals, leave no solution
-pub contest_order_empty : (p : PartialDeck) (deck : List (List Bool)) (c d : ℕ) → IsPartial p → IsSolution p deck → are_out_of_order p c d ≡ true → ⊥
+pub contest_order_empty : (p : PartialDeck) (deck : List (List Bool)) (c d : ℕ) → IsPartial p
+    → IsSolution p deck → are_out_of_order p c d ≡ true → ⊥
 contest_order_empty p deck c d is solution h =
     let contests = p.contests in
     let parts = and_parts (are_comparable p c d) (is_gt (slice_cmp nat_cmp (lows p c) (lows p d))) h in

@@ -22,9 +22,11 @@ pub record AreTried (p : PartialDeck) : Type 0 where
   pub blank : refutes p Blank ≡ false
   pub pigeon : (c : ℕ) → refutes p (Pigeon c) ≡ false
   pub order : (j : ℕ) → refutes p (Order j) ≡ false
-  pub contest : (c : ℕ) → (refutes p (Totals c) ≡ false) × (refutes p (Capacity c) ≡ false) × (refutes p (Over c) ≡ false)
+  pub contest : (c : ℕ) → (refutes p (Totals c) ≡ false) × (refutes p (Capacity c) ≡ false)
+      × (refutes p (Over c) ≡ false)
   pub same : (t u : ℕ) → t < u → refutes p (Same t u) ≡ false
-  pub pair : (c d : ℕ) → c < d → (refutes p (Twin c d) ≡ false) × (refutes p (ContestOrder c d) ≡ false)
+  pub pair : (c d : ℕ) → c < d → (refutes p (Twin c d) ≡ false)
+      × (refutes p (ContestOrder c d) ≡ false)
 
 -- two targets or contests in any order
 any_same : (p : PartialDeck) (t u : ℕ) → AreTried p → refutes p (Same t u) ≡ false
@@ -36,7 +38,8 @@ any_same p t u tried = elim (cases_lt t u) [
   ]
 ]
 
-any_pair : (p : PartialDeck) (c d : ℕ) → AreTried p → (refutes p (Twin c d) ≡ false) × (refutes p (ContestOrder c d) ≡ false)
+any_pair : (p : PartialDeck) (c d : ℕ) → AreTried p
+    → (refutes p (Twin c d) ≡ false) × (refutes p (ContestOrder c d) ≡ false)
 any_pair p c d tried = elim (cases_lt c d) [
   | inl lt ↦ tried.pair c d lt
   | inr le ↦ not_compared p c d (not_before p c d le)
@@ -57,6 +60,9 @@ none_holds p tried (Same t u) is = any_same p t u tried
 none_holds p tried (Evade s) is = absurd is
 
 -- nothing is found exactly where none holds
-pub exactly : (p : PartialDeck) (result : Option Reason) → (result ≡ None → (r : Reason) → IsCheap r → refutes p r ≡ false) → ((r : Reason) → result ≡ Some r → Closes p r) → (result ≡ None) ↔ ((r : Reason) → IsCheap r → refutes p r ≡ false)
+pub exactly : (p : PartialDeck) (result : Option Reason)
+    → (result ≡ None → (r : Reason) → IsCheap r → refutes p r ≡ false)
+    → ((r : Reason) → result ≡ Some r → Closes p r)
+    → (result ≡ None) ↔ ((r : Reason) → IsCheap r → refutes p r ≡ false)
 exactly p None none some = (none, λ h. refl)
 exactly p (Some r) none some = (none, λ h. let closes = some r refl in let bad : true ≡ false = sym closes.1 ∙ h r closes.0 in cc)

@@ -55,30 +55,37 @@ upper_half : (p : PartialDeck) (t x : ℕ) → CanSplit p t x → CanNarrow p t 
 upper_half p t x can = can_narrow p t x (hi p t) can.target (omega (arith, can.above)) can.below (omega arith) (λ same. omega (arith, same.0, can.above))
 
 -- a kid is a partial deck
-pub kid_partial : (p : PartialDeck) (label : Label) (kid : ℕ) → IsPartial p → is_allowed p label ≡ true → IsPartial (kid_of p label kid)
+pub kid_partial : (p : PartialDeck) (label : Label) (kid : ℕ) → IsPartial p
+    → is_allowed p label ≡ true → IsPartial (kid_of p label kid)
 kid_partial p (MarkOf j t) kid is h = decided_partial p j t (kid == 0) is (can_decide p j t h)
 kid_partial p (Split t x) kid is h = by_test (kid == 0)
   where
-    by_test : (b : Bool) → IsPartial (cond b (narrowed p t (lo p t) (x - 1)) (narrowed p t x (hi p t)))
+    by_test : (b : Bool) → IsPartial
+        (cond b (narrowed p t (lo p t) (x - 1)) (narrowed p t x (hi p t)))
     by_test true = narrowed_partial p t (lo p t) (x - 1) is (lower_half p t x (can_split p t x h))
     by_test false = narrowed_partial p t x (hi p t) is (upper_half p t x (can_split p t x h))
 
 -- taking back the step to it leaves the partial deck
-pub kid_undone : (p : PartialDeck) (label : Label) (kid : ℕ) → IsPartial p → is_allowed p label ≡ true → undone (kid_of p label kid) ≡ p
+pub kid_undone : (p : PartialDeck) (label : Label) (kid : ℕ) → IsPartial p
+    → is_allowed p label ≡ true → undone (kid_of p label kid) ≡ p
 kid_undone p (MarkOf j t) kid is h = undone_decided p j t (kid == 0) is (can_decide p j t h)
 kid_undone p (Split t x) kid is h = by_test (kid == 0)
   where
-    by_test : (b : Bool) → undone (cond b (narrowed p t (lo p t) (x - 1)) (narrowed p t x (hi p t))) ≡ p
+    by_test : (b : Bool) → undone (cond b (narrowed p t (lo p t) (x - 1)) (narrowed p t x (hi p t)))
+        ≡ p
     by_test true = undone_narrowed p t (lo p t) (x - 1)
     by_test false = undone_narrowed p t x (hi p t)
 
 -- each of its solutions is one of the partial deck
-pub kid_solution : (p : PartialDeck) (label : Label) (kid : ℕ) (deck : List (List Bool)) → IsPartial p → is_allowed p label ≡ true → IsSolution (kid_of p label kid) deck → IsSolution p deck
+pub kid_solution : (p : PartialDeck) (label : Label) (kid : ℕ) (deck : List (List Bool))
+    → IsPartial p → is_allowed p label ≡ true → IsSolution (kid_of p label kid) deck
+    → IsSolution p deck
 kid_solution p (MarkOf j t) kid deck is h solution =
     record { good = solution.good; canonical = solution.canonical; completion = undecided_completion p deck j t (kid == 0) is (can_decide p j t h) solution.completion }
 kid_solution p (Split t x) kid deck is h solution = by_test (kid == 0) solution
   where
-    by_test : (b : Bool) → IsSolution (cond b (narrowed p t (lo p t) (x - 1)) (narrowed p t x (hi p t))) deck → IsSolution p deck
+    by_test : (b : Bool) → IsSolution
+        (cond b (narrowed p t (lo p t) (x - 1)) (narrowed p t x (hi p t))) deck → IsSolution p deck
     by_test true sol =
         let can = lower_half p t x (can_split p t x h) in
         record { good = sol.good; canonical = sol.canonical; completion = widened_completion p deck t (lo p t) (x - 1) is can.target can.above can.below sol.completion }
@@ -87,13 +94,16 @@ kid_solution p (Split t x) kid deck is h solution = by_test (kid == 0) solution
         record { good = sol.good; canonical = sol.canonical; completion = widened_completion p deck t x (hi p t) is can.target can.above can.below sol.completion }
 
 -- and each of the partial deck is one of the first kid or of the second
-pub solution_in_kid : (p : PartialDeck) (label : Label) (deck : List (List Bool)) → IsPartial p → is_allowed p label ≡ true → IsSolution p deck → IsSolution (kid_of p label 0) deck ⊎ IsSolution (kid_of p label 1) deck
+pub solution_in_kid : (p : PartialDeck) (label : Label) (deck : List (List Bool)) → IsPartial p
+    → is_allowed p label ≡ true → IsSolution p deck
+    → IsSolution (kid_of p label 0) deck ⊎ IsSolution (kid_of p label 1) deck
 solution_in_kid p (MarkOf j t) deck is h solution = by_mark (get_or (get_or deck j []) t false) refl
   where
     kid : (on : Bool) → get_or (get_or deck j []) t false ≡ on → IsSolution (decided p j t on) deck
     kid on e = record { good = solution.good; canonical = solution.canonical; completion = decided_completion p deck j t on is (can_decide p j t h) e solution.completion }
 
-    by_mark : (on : Bool) → get_or (get_or deck j []) t false ≡ on → IsSolution (decided p j t true) deck ⊎ IsSolution (decided p j t false) deck
+    by_mark : (on : Bool) → get_or (get_or deck j []) t false ≡ on
+        → IsSolution (decided p j t true) deck ⊎ IsSolution (decided p j t false) deck
     by_mark true e = inl (kid true e)
     by_mark false e = inr (kid false e)
 solution_in_kid p (Split t x) deck is h solution =

@@ -18,7 +18,8 @@ use Rattle.close_rules.proofs.Passed.{second}
 use Rattle.close_rules.proofs.Voting.{is_voting, few_voting, vote_is_voting}
 
 -- no total of a solution is above the ballots that can vote in its contest
-total_at_most : (p : PartialDeck) (deck : List (List Bool)) (c t : ℕ) → IsSolution p deck → IsOf p.contests c t → own_total p.contests deck t ≤ most_voting p c
+total_at_most : (p : PartialDeck) (deck : List (List Bool)) (c t : ℕ) → IsSolution p deck
+    → IsOf p.contests c t → own_total p.contests deck t ≤ most_voting p c
 total_at_most p deck c t solution of =
     let contests = p.contests in
     let t_in : t < target_count contests = omega (arith, of.to, first_le contests (c + 1)) in
@@ -42,7 +43,8 @@ record IsFirst (low high : ℕ → ℕ) (most from t n : ℕ) (totals : ℕ → 
   pub few : totals t ≤ most
   pub rest : AreRising low high most (max from (low t) + 1) (t + 1) n totals
 
-first_of : (low high : ℕ → ℕ) (most from t n : ℕ) (totals : ℕ → ℕ) → AreRising low high most from t (suc n) totals → IsFirst low high most from t n totals
+first_of : (low high : ℕ → ℕ) (most from t n : ℕ) (totals : ℕ → ℕ)
+    → AreRising low high most from t (suc n) totals → IsFirst low high most from t n totals
 first_of low high most from t n totals are =
     let at : t + 0 ≡ t = omega arith in
     let above : low t ≤ totals t = subst (λ (x : ℕ). low x ≤ totals x) at (are.above 0 (omega arith)) in
@@ -67,7 +69,10 @@ first_of low high most from t n totals are =
     next i = omega arith
 
 -- of such totals, no least one is above what it can be
-none_above : (low high : ℕ → ℕ) (most from t n : ℕ) (totals : ℕ → ℕ) → AreRising low high most from t n totals → is_above most (least_rising from (map low (range_with_len t n))) (map high (range_with_len t n)) ≡ true → ⊥
+none_above : (low high : ℕ → ℕ) (most from t n : ℕ) (totals : ℕ → ℕ)
+    → AreRising low high most from t n totals
+    → is_above most (least_rising from (map low (range_with_len t n)))
+    (map high (range_with_len t n)) ≡ true → ⊥
 none_above low high most from t zero totals are h = cc
 none_above low high most from t (suc n) totals are h =
     let first = first_of low high most from t n totals are in
@@ -79,7 +84,9 @@ none_above low high most from t (suc n) totals are h =
     (le-ltb most x (omega (arith, first.least, first.few))))
 
 -- and their sum is at least that of the least ones
-pub least_sum : (low high : ℕ → ℕ) (most from t n : ℕ) (totals : ℕ → ℕ) → AreRising low high most from t n totals → sum (least_rising from (map low (range_with_len t n))) ≤ sum (map totals (range_with_len t n))
+pub least_sum : (low high : ℕ → ℕ) (most from t n : ℕ) (totals : ℕ → ℕ)
+    → AreRising low high most from t n totals
+    → sum (least_rising from (map low (range_with_len t n))) ≤ sum (map totals (range_with_len t n))
 least_sum low high most from t zero totals are = omega arith
 least_sum low high most from t (suc n) totals are =
     let first = first_of low high most from t n totals are in
@@ -93,8 +100,10 @@ least_sum low high most from t (suc n) totals are =
     )
 
 -- the totals of a contest in a solution
-pub are_rising : (p : PartialDeck) (deck : List (List Bool)) (c : ℕ) → IsPartial p → IsSolution p deck → c < length p.contests
-    → AreRising (lo p) (hi p) (most_voting p c) p.rules.least (first_target p.contests c) (contest_at p.contests c).targets (own_total p.contests deck)
+pub are_rising : (p : PartialDeck) (deck : List (List Bool)) (c : ℕ) → IsPartial p
+    → IsSolution p deck → c < length p.contests
+    → AreRising (lo p) (hi p) (most_voting p c) p.rules.least (first_target p.contests c)
+    (contest_at p.contests c).targets (own_total p.contests deck)
 are_rising p deck c is solution h = record {
   above = λ i lt. lo_le p deck (first_target p.contests c + i) is solution.completion (nth_within p.contests c i h lt);
   below = λ i lt. le_hi p deck (first_target p.contests c + i) is solution.completion (nth_within p.contests c i h lt);
@@ -119,7 +128,8 @@ are_rising p deck c is solution h = record {
     less_of x y le other = grind (arith, other)
 
 -- a least total above what it can be leaves no solution
-pub totals_empty : (p : PartialDeck) (deck : List (List Bool)) (c : ℕ) → IsPartial p → IsSolution p deck → has_no_totals p c ≡ true → ⊥
+pub totals_empty : (p : PartialDeck) (deck : List (List Bool)) (c : ℕ) → IsPartial p
+    → IsSolution p deck → has_no_totals p c ≡ true → ⊥
 totals_empty p deck c is solution h =
     let parts = and_parts (nat_lt c (length p.contests)) (is_above (most_voting p c) (least_totals p c) (highs p c)) h in
     none_above (lo p) (hi p) (most_voting p c) p.rules.least (first_target p.contests c) (contest_at p.contests c).targets (own_total p.contests deck)

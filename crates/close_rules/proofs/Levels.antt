@@ -1,4 +1,5 @@
--- The sum of the largest numbers of a list, counted by levels: how many are above 0, above 1, and so on.
+-- The sum of the largest numbers of a list, counted by levels: how many are above 0, above 1, and
+-- so on.
 use Rattle.std.proofs.Common.{◌≡◌, ◌+◌, ◌<◌, ◌≤◌, ℕ, zero, suc, Bool, true, false, nat_lt, min, List, [], ◌∷◌, cond, count_by, refl, ap, sym, ◌∙◌, arith}
 use Rattle.std.specs.List.{range_with_len, sum, sum_by, AllByRecursion}
 use Rattle.std.proofs.lemmas.Bool.Decides.{nat_tests}
@@ -14,7 +15,8 @@ abbrev pub levels : ℕ → ℕ → List ℕ → ℕ
 levels n most numbers = sum_by (λ level. min most (count_above level numbers)) (range_with_len 0 n)
 
 -- one level more
-pub level_more : (n most : ℕ) (numbers : List ℕ) → levels (n + 1) most numbers ≡ levels n most numbers + min most (count_above n numbers)
+pub level_more : (n most : ℕ) (numbers : List ℕ)
+    → levels (n + 1) most numbers ≡ levels n most numbers + min most (count_above n numbers)
 level_more n most numbers = sum_more (λ level. min most (count_above level numbers)) n
 
 -- sums of terms that agree
@@ -32,7 +34,8 @@ no_levels [] = refl
 no_levels (n ∷ ns) = omega (arith, sum_by-cons (λ (m : ℕ). 0) n ns, no_levels ns)
 
 -- a number is above as many levels below n as it is, and not more than n
-levels_below : (x n : ℕ) → sum_by (λ level. cond (nat_lt level x) 1 0) (range_with_len 0 n) ≡ min n x
+levels_below : (x n : ℕ) → sum_by (λ level. cond (nat_lt level x) 1 0) (range_with_len 0 n)
+    ≡ min n x
 levels_below x zero = omega arith
 levels_below x (suc n) =
     let next : n + 1 ≡ suc n = omega arith in
@@ -46,7 +49,8 @@ levels_below x (suc n) =
     by_test false e = let le : x ≤ n = grind (arith, nat_tests, e) in omega (arith, le)
 
 -- a sum of numbers up to n, by levels
-pub sum_by_levels : (n : ℕ) (numbers : List ℕ) → AllByRecursion (λ x. x ≤ n) numbers → sum_by (λ level. count_above level numbers) (range_with_len 0 n) ≡ sum numbers
+pub sum_by_levels : (n : ℕ) (numbers : List ℕ) → AllByRecursion (λ x. x ≤ n) numbers
+    → sum_by (λ level. count_above level numbers) (range_with_len 0 n) ≡ sum numbers
 sum_by_levels n [] h = no_levels (range_with_len 0 n)
 sum_by_levels n (x ∷ numbers) h =
     let one = sums_agree (λ level. count_above level (x ∷ numbers)) (λ level. cond (nat_lt level x) 1 0 + count_above level numbers) (range_with_len 0 n)

@@ -10,7 +10,8 @@ use Rattle.close_rules.specs.Evading.{is_misassignment, stays}
 use Rattle.close_rules.proofs.Passed.{at_number, each_number}
 
 -- a test that each number below n passes
-all_pass : (test : ℕ → Bool) (n : ℕ) → ((t : ℕ) → t < n → test t ≡ true) → list_all test (range_with_len 0 n) ≡ true
+all_pass : (test : ℕ → Bool) (n : ℕ) → ((t : ℕ) → t < n → test t ≡ true)
+    → list_all test (range_with_len 0 n) ≡ true
 all_pass test n h = each_number test 0 n (λ i lt. let here : 0 + i ≡ i = omega arith in ap test here ∙ h i lt)
 
 -- a misassignment passes the test of one
@@ -29,18 +30,21 @@ passed_is n s h =
     }
 
 -- in the identity each target counts for itself
-pub all_stay : (n : ℕ) (s : List ℕ) → length s ≡ n → s ≡ identity (length s) → list_all (stays s) (range_with_len 0 n) ≡ true
+pub all_stay : (n : ℕ) (s : List ℕ) → length s ≡ n → s ≡ identity (length s)
+    → list_all (stays s) (range_with_len 0 n) ≡ true
 all_stay n s long e = all_pass (stays s) n (λ u lt. eq-eqb (source s u) u (source_at_identity s u (omega (arith, lt, long)) e))
 
 -- and only in it
-pub stay_identity : (n : ℕ) (s : List ℕ) → length s ≡ n → list_all (stays s) (range_with_len 0 n) ≡ true → s ≡ identity (length s)
+pub stay_identity : (n : ℕ) (s : List ℕ) → length s ≡ n
+    → list_all (stays s) (range_with_len 0 n) ≡ true → s ≡ identity (length s)
 stay_identity n s long h =
     identity_from s (λ u lt.
     let here : 0 + u ≡ u = omega arith in
     eqb-true (source s u) u (ap (stays s) (sym here) ∙ at_number (stays s) 0 n u h (omega (arith, lt, long))))
 
 -- the identity evades nothing
-pub identity_not : (n : ℕ) (s : List ℕ) (rest : Bool) → length s ≡ n → s ≡ identity (length s) → false ≡ (is_misassignment n s && (not (list_all (stays s) (range_with_len 0 n)) && rest))
+pub identity_not : (n : ℕ) (s : List ℕ) (rest : Bool) → length s ≡ n → s ≡ identity (length s)
+    → false ≡ (is_misassignment n s && (not (list_all (stays s) (range_with_len 0 n)) && rest))
 identity_not n s rest long e = neither (is_misassignment n s) (list_all (stays s) (range_with_len 0 n)) (all_stay n s long e)
   where
     neither : (a b : Bool) → b ≡ true → false ≡ (a && (not b && rest))
@@ -48,9 +52,12 @@ identity_not n s rest long e = neither (is_misassignment n s) (list_all (stays s
     neither false b h = refl
 
 -- another misassignment evades where the rest holds
-pub other_where : (n : ℕ) (s : List ℕ) (rest : Bool) → AreSources s → length s ≡ n → (s ≡ identity (length s) → ⊥) → rest ≡ (is_misassignment n s && (not (list_all (stays s) (range_with_len 0 n)) && rest))
+pub other_where : (n : ℕ) (s : List ℕ) (rest : Bool) → AreSources s → length s ≡ n
+    → (s ≡ identity (length s) → ⊥)
+    → rest ≡ (is_misassignment n s && (not (list_all (stays s) (range_with_len 0 n)) && rest))
 other_where n s rest are long other = by_answer (list_all (stays s) (range_with_len 0 n)) refl
   where
-    by_answer : (b : Bool) → list_all (stays s) (range_with_len 0 n) ≡ b → rest ≡ (is_misassignment n s && (not (list_all (stays s) (range_with_len 0 n)) && rest))
+    by_answer : (b : Bool) → list_all (stays s) (range_with_len 0 n) ≡ b
+        → rest ≡ (is_misassignment n s && (not (list_all (stays s) (range_with_len 0 n)) && rest))
     by_answer true e = absurd (other (stay_identity n s long e))
     by_answer false e = λ i. sym (is_passed n s (subst (λ (m : ℕ). IsMisassignment m s) long are.is)) i && (not (sym e i) && rest)

@@ -21,7 +21,8 @@ AgreeAll [] (x ∷ ballot) = ⊥
 AgreeAll (mark ∷ row) [] = ⊥
 AgreeAll (mark ∷ row) (x ∷ ballot) = Agrees mark x × AgreeAll row ballot
 
-agree_all : (n : ℕ) (row : List Mark) (ballot : List Bool) → AreAlike n row ballot → AgreeAll row ballot
+agree_all : (n : ℕ) (row : List Mark) (ballot : List Bool) → AreAlike n row ballot
+    → AgreeAll row ballot
 agree_all n [] [] are = tt
 agree_all n [] (x ∷ ballot) are = absurd (omega (arith, are.row_long, are.long))
 agree_all n (mark ∷ row) [] are = absurd (omega (arith, are.row_long, are.long))
@@ -35,7 +36,8 @@ agree_all n (mark ∷ row) (x ∷ ballot) are =
       }),
     )
 
-smaller_less : (row other : List Mark) (a b : List Bool) → AgreeAll row a → AgreeAll other b → is_smaller row other ≡ true → slice_cmp bool_cmp a b ≡ Less
+smaller_less : (row other : List Mark) (a b : List Bool) → AgreeAll row a → AgreeAll other b
+    → is_smaller row other ≡ true → slice_cmp bool_cmp a b ≡ Less
 smaller_less [] other a b x y h = cc
 smaller_less (m ∷ row) [] a b x y h = cc
 smaller_less (m ∷ row) (o ∷ other) [] b x y h = absurd x
@@ -49,7 +51,8 @@ smaller_less (Unmarked ∷ row) (Undecided ∷ other) (k ∷ a) (l ∷ b) x y h 
 smaller_less (Undecided ∷ row) (o ∷ other) (k ∷ a) (l ∷ b) x y h = cc
 
 -- a ballot that is smaller than the next leaves no solution
-pub order_empty : (p : PartialDeck) (deck : List (List Bool)) (j : ℕ) → IsPartial p → IsSolution p deck → is_out_of_order p j ≡ true → ⊥
+pub order_empty : (p : PartialDeck) (deck : List (List Bool)) (j : ℕ) → IsPartial p
+    → IsSolution p deck → is_out_of_order p j ≡ true → ⊥
 order_empty p deck j is solution h =
     let parts = and_parts (nat_lt (j + 1) p.ballots) (is_smaller (row_at p j) (row_at p (j + 1))) h in
     let within : j + 1 < p.ballots = ltb-true (j + 1) p.ballots parts.0 in

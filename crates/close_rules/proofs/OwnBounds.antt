@@ -1,4 +1,5 @@
--- Where no cheap reason holds of a complete partial deck, none holds of it with bounds that say nothing.
+-- Where no cheap reason holds of a complete partial deck, none holds of it with bounds that say
+-- nothing.
 use Rattle.std.proofs.Common.{◌≡◌, ◌<◌, ◌≤◌, ◌&&◌, inl, inr, ℕ, suc, Bool, false, nat_lt, min, max, List, [], ◌∷◌, length, get_or, map, replicate, refl, ap, sym, ◌∙◌, arith}
 use Rattle.std.specs.Prelude.{◌==◌}
 use Rattle.std.specs.List.{list_all, sum}
@@ -27,7 +28,8 @@ use Rattle.close_rules.proofs.CompleteRows.{decided_row, sure_total, possible_to
 use Rattle.close_rules.proofs.ShownSolution.{IsLeft, low_known, high_known}
 
 -- the marks of a deck are those that it shows
-row_same : (row : List Mark) → ((t : ℕ) → t < length row → is_undecided (get_or row t Undecided) ≡ false) → map mark_of (map is_marked row) ≡ row
+row_same : (row : List Mark) → ((t : ℕ) → t < length row
+    → is_undecided (get_or row t Undecided) ≡ false) → map mark_of (map is_marked row) ≡ row
 row_same [] h = refl
 row_same (mark ∷ row) h = λ i. mark_same mark (h 0 (omega arith)) i ∷ row_same row (λ t lt. h (suc t) (omega (arith, lt))) i
   where
@@ -36,12 +38,15 @@ row_same (mark ∷ row) h = λ i. mark_same mark (h 0 (omega arith)) i ∷ row_s
     mark_same Unmarked e = refl
     mark_same Undecided e = cc
 
-rows_same : (rows : List (List Mark)) → ((j : ℕ) → j < length rows → (t : ℕ) → t < length (get_or rows j []) → is_undecided (get_or (get_or rows j []) t Undecided) ≡ false)
+rows_same : (rows : List (List Mark))
+    → ((j : ℕ) → j < length rows → (t : ℕ) → t < length (get_or rows j [])
+    → is_undecided (get_or (get_or rows j []) t Undecided) ≡ false)
     → map (λ ballot. map mark_of ballot) (map (λ row. map is_marked row) rows) ≡ rows
 rows_same [] h = refl
 rows_same (row ∷ rows) h = λ i. row_same row (h 0 (omega arith)) i ∷ rows_same rows (λ j lt. h (suc j) (omega (arith, lt))) i
 
-marks_same : (p : PartialDeck) → IsPartial p → IsComplete p → (decided_as p.contests p.rules p.ballots (shown p)).marks ≡ p.marks
+marks_same : (p : PartialDeck) → IsPartial p → IsComplete p
+    → (decided_as p.contests p.rules p.ballots (shown p)).marks ≡ p.marks
 marks_same p is complete = rows_same p.marks (λ j lt t h.
     let row = decided_row p j [] is complete (omega (arith, lt, is.height)) in row.decided t (omega (arith, h, row.long)))
 
@@ -52,7 +57,8 @@ wide p = record p { bounds = replicate (target_count p.contests) (record { low =
 wide_at : (p : PartialDeck) (t : ℕ) → t < target_count p.contests → bounds_at (wide p) t ≡ record { low = 0; high = p.ballots }
 wide_at p t lt = get_or-replicate (target_count p.contests) t (record { low = 0; high = p.ballots }) no_bounds lt
 
-past : (p : PartialDeck) (t : ℕ) → IsPartial p → target_count p.contests ≤ t → bounds_at (wide p) t ≡ bounds_at p t
+past : (p : PartialDeck) (t : ℕ) → IsPartial p → target_count p.contests ≤ t
+    → bounds_at (wide p) t ≡ bounds_at p t
 past p t is le = get_or_past (wide p).bounds t no_bounds (omega (arith, le, length-replicate {A = Bounds} (target_count p.contests) (record { low = 0; high = p.ballots }))) ∙ sym (get_or_past p.bounds t no_bounds (omega (arith, le, is.each)))
 
 lows_same : (p : PartialDeck) (t : ℕ) → IsLeft p → lo (wide p) t ≡ lo p t
@@ -93,7 +99,8 @@ abbrev compare_in : PartialDeck → (ℕ → ℕ) → (ℕ → ℕ) → ℕ → 
 compare_in p low high c d =
     nat_lt c d && (nat_lt d (length p.contests) && (has_shape_of (contest_at p.contests c) (contest_at p.contests d) && (fixed_in p low high c && fixed_in p low high d)))
 
-tests_same : (p : PartialDeck) (r : Reason) → IsLeft p → IsCheap r → refutes (wide p) r ≡ refutes p r
+tests_same : (p : PartialDeck) (r : Reason) → IsLeft p → IsCheap r
+    → refutes (wide p) r ≡ refutes p r
 tests_same p (Order j) left h = refl
 tests_same p (Totals c) left h = λ i. no_totals p (low_same p left i) (high_same p left i) c
 tests_same p (Capacity c) left h = λ i. no_capacity p (low_same p left i) c
@@ -106,7 +113,9 @@ tests_same p Columns left h = refl
 tests_same p (Same t u) left h = refl
 tests_same p (Evade s) left h = absurd h
 
-pub still_none : (p : PartialDeck) → IsPartial p → IsComplete p → ((r : Reason) → IsCheap r → refutes p r ≡ false) → (r : Reason) → IsCheap r → refutes (decided_as p.contests p.rules p.ballots (shown p)) r ≡ false
+pub still_none : (p : PartialDeck) → IsPartial p → IsComplete p
+    → ((r : Reason) → IsCheap r → refutes p r ≡ false) → (r : Reason) → IsCheap r
+    → refutes (decided_as p.contests p.rules p.ballots (shown p)) r ≡ false
 still_none p is complete none r cheap =
     let left : IsLeft p = record { is = is; complete = complete; none = none } in
     (λ i. refutes (record (wide p) { marks = marks_same p is complete i }) r) ∙ (tests_same p r left cheap ∙ none r cheap)

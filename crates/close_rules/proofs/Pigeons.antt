@@ -1,4 +1,5 @@
--- The contests of one shape have different lists of totals in each solution, so no more of them than lists.
+-- The contests of one shape have different lists of totals in each solution, so no more of them
+-- than lists.
 use Rattle.std.proofs.Common.{◌≡◌, ◌+◌, ◌-◌, ◌*◌, min, ◌<◌, ◌≤◌, ◌&&◌, ℕ, zero, suc, Bool, true, false, nat_lt, List, ◌∷◌, length, get_or, map, cond, count_by, subst, refl, ap, sym, ◌∙◌, arith, All}
 use Rattle.std.specs.Prelude.{◌==◌, nat_eq}
 use Rattle.std.specs.Bool.{Decides}
@@ -48,11 +49,13 @@ record IsRise (totals : ℕ → ℕ) (t n from many : ℕ) : Type 0 where
   pub below : (i : ℕ) → i < n → totals (t + i) < from + many
   pub rise : (i : ℕ) → i + 1 < n → totals (t + i) < totals (t + i + 1)
 
-contains_map : (f : List ℕ → List ℕ) (xs : List (List ℕ)) (x : List ℕ) → Contains xs x → Contains (map f xs) (f x)
+contains_map : (f : List ℕ → List ℕ) (xs : List (List ℕ)) (x : List ℕ) → Contains xs x
+    → Contains (map f xs) (f x)
 contains_map f xs x is = (is.0, omega (arith, is.1, length-map xs f), get_or-map f xs is.0 x (f x) is.1 ∙ ap f is.2)
 
 -- such totals are one of the choices
-is_choice : (totals : ℕ → ℕ) (t n from many : ℕ) → IsRise totals t n from many → Contains (choices n (range_with_len from many)) (map totals (range_with_len t n))
+is_choice : (totals : ℕ → ℕ) (t n from many : ℕ) → IsRise totals t n from many
+    → Contains (choices n (range_with_len from many)) (map totals (range_with_len t n))
 is_choice totals t zero from many is = (0, omega arith, refl)
 is_choice totals t (suc n) from zero is =
     let at : t + 0 ≡ t = omega arith in
@@ -66,10 +69,16 @@ is_choice totals t (suc n) from (suc many) is =
     at_start : (t : ℕ) → t + 0 ≡ t
     at_start t = omega arith
 
-    by_first : (totals : ℕ → ℕ) (t n from many : ℕ) → IsRise totals t (suc n) from (suc many) → (b : Bool) → (totals t == from) ≡ b
-        → (IsRise totals (t + 1) n (from + 1) many → Contains (choices n (range_with_len (from + 1) many)) (map totals (range_with_len (t + 1) n)))
-        → (IsRise totals t (suc n) (from + 1) many → Contains (choices (suc n) (range_with_len (from + 1) many)) (map totals (range_with_len t (suc n))))
-        → Contains (choices (suc n) (range_with_len from (suc many))) (map totals (range_with_len t (suc n)))
+    by_first : (totals : ℕ → ℕ) (t n from many : ℕ) → IsRise totals t (suc n) from (suc many)
+        → (b : Bool) → (totals t == from) ≡ b
+        → (IsRise totals (t + 1) n (from + 1) many
+        → Contains (choices n (range_with_len (from + 1) many))
+        (map totals (range_with_len (t + 1) n)))
+        → (IsRise totals t (suc n) (from + 1) many
+        → Contains (choices (suc n) (range_with_len (from + 1) many))
+        (map totals (range_with_len t (suc n))))
+        → Contains (choices (suc n) (range_with_len from (suc many)))
+        (map totals (range_with_len t (suc n)))
     by_first totals t n from many is true e with without =
         let first : totals t ≡ from = eqb-true (totals t) from e in
         let rest = map totals (range_with_len (t + 1) n) in
@@ -97,7 +106,9 @@ abbrev totals_of : List Contest → List (List Bool) → ℕ → List ℕ
 totals_of contests deck d = map (own_total contests deck) (targets_of contests d)
 
 -- their sum is at most all votes of those that can vote
-few_votes : (p : PartialDeck) (deck : List (List Bool)) (d : ℕ) → IsPartial p → IsSolution p deck → d < length p.contests → sum (totals_of p.contests deck d) ≤ (contest_at p.contests d).limit * most_voting p d
+few_votes : (p : PartialDeck) (deck : List (List Bool)) (d : ℕ) → IsPartial p → IsSolution p deck
+    → d < length p.contests → sum (totals_of p.contests deck d)
+    ≤ (contest_at p.contests d).limit * most_voting p d
 few_votes p deck d is solution h =
     let limit = (contest_at p.contests d).limit in
     let most = most_voting p d in
@@ -108,7 +119,9 @@ few_votes p deck d is solution h =
     omega (arith, votes, votes_fit p deck d is solution h, capacity_by_levels p d, all, wide)
 
 -- a contest of the shape of c has one of the lists
-has_list : (p : PartialDeck) (deck : List (List Bool)) (c d : ℕ) → IsPartial p → IsSolution p deck → d < length p.contests → has_shape_of (contest_at p.contests c) (contest_at p.contests d) ≡ true
+has_list : (p : PartialDeck) (deck : List (List Bool)) (c d : ℕ) → IsPartial p → IsSolution p deck
+    → d < length p.contests → has_shape_of (contest_at p.contests c) (contest_at p.contests d)
+    ≡ true
     → is_member same (lists_of_totals p c) (totals_of p.contests deck d) ≡ true
 has_list p deck c d is solution h alike =
     let contests = p.contests in
@@ -120,7 +133,9 @@ has_list p deck c d is solution h alike =
     at_first : (totals : ℕ → ℕ) (t most : ℕ) → totals (t + 0) ≤ most → totals t ≤ most
     at_first totals t most h = let at : t + 0 ≡ t = omega arith in subst (λ (x : ℕ). totals x ≤ most) at h
 
-    own : (p : PartialDeck) (deck : List (List Bool)) (d : ℕ) → IsPartial p → IsSolution p deck → d < length p.contests → is_member same (lists_of_totals p d) (totals_of p.contests deck d) ≡ true
+    own : (p : PartialDeck) (deck : List (List Bool)) (d : ℕ) → IsPartial p → IsSolution p deck
+        → d < length p.contests → is_member same (lists_of_totals p d) (totals_of p.contests deck d)
+        ≡ true
     own p deck d is solution h =
         let contests = p.contests in
         let contest = contest_at contests d in
@@ -143,7 +158,10 @@ has_list p deck c d is solution h alike =
         is_member-filter nat_list_eq_equiv (fits room) totals (λ x e. ap (fits room) ((decides totals x).0 e)) all ∙ (λ i. member i && fine i)
 
 -- two contests of one shape have different lists
-lists_differ : (p : PartialDeck) (deck : List (List Bool)) (d e : ℕ) → IsPartial p → IsSolution p deck → d < e → e < length p.contests → contest_at p.contests d ≡ contest_at p.contests e → totals_of p.contests deck d ≡ totals_of p.contests deck e → ⊥
+lists_differ : (p : PartialDeck) (deck : List (List Bool)) (d e : ℕ) → IsPartial p
+    → IsSolution p deck → d < e → e < length p.contests
+    → contest_at p.contests d ≡ contest_at p.contests e
+    → totals_of p.contests deck d ≡ totals_of p.contests deck e → ⊥
 lists_differ p deck d e is solution before e_in shape lists =
     let contests = p.contests in
     let d_in : d < length contests = omega (arith, before, e_in) in
@@ -154,7 +172,9 @@ lists_differ p deck d e is solution before e_in shape lists =
     ∙ get_or-map-range_with_len (own_total contests deck) (first_target contests e) (contest_at contests e).targets i (first_target contests e + i) 0 (omega (arith, i_in, ap (λ (x : Contest). x.targets) shape)) refl))
 
 -- what holds of each number of a range that passes a test
-of_passing : (test : ℕ → Bool) (P : ℕ → Type 0) (first n : ℕ) → ((d : ℕ) → first ≤ d → d < first + n → test d ≡ true → P d) → All P (filter test (range_with_len first n))
+of_passing : (test : ℕ → Bool) (P : ℕ → Type 0) (first n : ℕ)
+    → ((d : ℕ) → first ≤ d → d < first + n → test d ≡ true → P d)
+    → All P (filter test (range_with_len first n))
 of_passing test P first n h =
     let kept = All-filter test (λ (d : ℕ). test d ≡ true → P d) (range_with_len first n)
     (λ i e lt.
@@ -163,7 +183,9 @@ of_passing test P first n h =
     λ i e lt. kept i e lt (filter_passes test (range_with_len first n) i e lt)
 
 -- lists made from the numbers of a range that pass a test differ, where each two of them do
-distinct : (f : ℕ → List ℕ) (test : ℕ → Bool) (first n : ℕ) → ((d e : ℕ) → first ≤ d → d < e → e < first + n → test d ≡ true → test e ≡ true → same (f d) (f e) ≡ false) → IsDistinct same (map f (filter test (range_with_len first n)))
+distinct : (f : ℕ → List ℕ) (test : ℕ → Bool) (first n : ℕ)
+    → ((d e : ℕ) → first ≤ d → d < e → e < first + n → test d ≡ true → test e ≡ true
+    → same (f d) (f e) ≡ false) → IsDistinct same (map f (filter test (range_with_len first n)))
 unfolding IsDistinct
 distinct f test first zero h = tt
 distinct f test first (suc n) h =
@@ -172,7 +194,8 @@ distinct f test first (suc n) h =
     others : List ℕ
     others = filter test (range_with_len (first + 1) n)
 
-    by_test : (b : Bool) → test first ≡ b → IsDistinct same (map f others) → IsDistinct same (map f (cond b (first ∷ others) others))
+    by_test : (b : Bool) → test first ≡ b → IsDistinct same (map f others)
+        → IsDistinct same (map f (cond b (first ∷ others) others))
     by_test true p rest =
         IsDistinct-cons same (f first) (map f others)
         (recursion_from_All (λ (y : List ℕ). same (f first) y ≡ false) (map f others)
@@ -181,7 +204,8 @@ distinct f test first (suc n) h =
     by_test false p rest = rest
 
 -- more contests of one shape than lists leave no solution
-pub pigeon_empty : (p : PartialDeck) (deck : List (List Bool)) (c : ℕ) → IsPartial p → IsSolution p deck → has_few_lists p c ≡ true → ⊥
+pub pigeon_empty : (p : PartialDeck) (deck : List (List Bool)) (c : ℕ) → IsPartial p
+    → IsSolution p deck → has_few_lists p c ≡ true → ⊥
 pigeon_empty p deck c is solution h =
     let contests = p.contests in
     let parts = and_parts (nat_lt c (length contests)) (nat_lt (length (lists_of_totals p c)) (alike_count p c)) h in

@@ -15,7 +15,8 @@ use Rattle.close_rules.proofs.OutOfOrder.{order_empty}
 use Rattle.close_rules.proofs.Pigeons.{pigeon_empty}
 use Rattle.close_rules.proofs.SameColumns.{same_empty, columns_empty}
 
-pub refuted : (p : PartialDeck) (reason : Reason) (deck : List (List Bool)) → IsPartial p → refutes p reason ≡ true → IsSolution p deck → ⊥
+pub refuted : (p : PartialDeck) (reason : Reason) (deck : List (List Bool)) → IsPartial p
+    → refutes p reason ≡ true → IsSolution p deck → ⊥
 refuted p (Order j) deck is h solution = order_empty p deck j is solution h
 refuted p (Totals c) deck is h solution = totals_empty p deck c is solution h
 refuted p (Capacity c) deck is h solution = capacity_empty p deck c is solution h

@@ -14,7 +14,8 @@ abbrev pub above_from : (low high : ℕ → ℕ) (most from t n : ℕ) → Bool
 above_from low high most from t n = is_above most (least_rising from (map low (range_with_len t n))) (map high (range_with_len t n))
 
 -- one target further, where its least total is possible
-pub further : (low high : ℕ → ℕ) (most from t u n m x : ℕ) → n ≡ suc m → u ≡ t + 1 → x ≡ max from (low t) → x ≤ high t → x ≤ most
+pub further : (low high : ℕ → ℕ) (most from t u n m x : ℕ) → n ≡ suc m → u ≡ t + 1
+    → x ≡ max from (low t) → x ≤ high t → x ≤ most
     → above_from low high most (x + 1) u m ≡ above_from low high most from t n
 further low high most from t u n m x n_is u_is x_is fits few =
     ap (λ (v : ℕ). above_from low high most (x + 1) v m) u_is
@@ -23,19 +24,23 @@ further low high most from t u n m x n_is u_is x_is fits few =
     ∙ ap (λ (k : ℕ). above_from low high most from t k) (sym n_is)))
 
 -- a least total that is above what its total can be
-pub above_high : (low high : ℕ → ℕ) (most from t n m x : ℕ) → n ≡ suc m → x ≡ max from (low t) → high t < x → above_from low high most from t n ≡ true
+pub above_high : (low high : ℕ → ℕ) (most from t n m x : ℕ) → n ≡ suc m → x ≡ max from (low t)
+    → high t < x → above_from low high most from t n ≡ true
 above_high low high most from t n m x n_is x_is h =
     ap (λ (k : ℕ). above_from low high most from t k) n_is
     ∙ or_left (nat_lt (high t) (max from (low t))) (nat_lt most (max from (low t)) || above_from low high most (max from (low t) + 1) (t + 1) m) (ap (nat_lt (high t)) (sym x_is) ∙ lt-ltb (high t) x h)
 
 -- a least total that is above what any total of the contest can be
-pub above_most : (low high : ℕ → ℕ) (most from t n m x : ℕ) → n ≡ suc m → x ≡ max from (low t) → most < x → above_from low high most from t n ≡ true
+pub above_most : (low high : ℕ → ℕ) (most from t n m x : ℕ) → n ≡ suc m → x ≡ max from (low t)
+    → most < x → above_from low high most from t n ≡ true
 above_most low high most from t n m x n_is x_is h =
     ap (λ (k : ℕ). above_from low high most from t k) n_is
     ∙ second_or (nat_lt (high t) (max from (low t))) (nat_lt most (max from (low t))) (above_from low high most (max from (low t) + 1) (t + 1) m) (ap (nat_lt most) (sym x_is) ∙ lt-ltb most x h)
 
 -- the sum of the least totals, the first one apart
-pub sum_further : (low : ℕ → ℕ) (from t u n m x : ℕ) → n ≡ suc m → u ≡ t + 1 → x ≡ max from (low t) → sum (least_rising from (map low (range_with_len t n))) ≡ x + sum (least_rising (x + 1) (map low (range_with_len u m)))
+pub sum_further : (low : ℕ → ℕ) (from t u n m x : ℕ) → n ≡ suc m → u ≡ t + 1 → x ≡ max from (low t)
+    → sum (least_rising from (map low (range_with_len t n)))
+    ≡ x + sum (least_rising (x + 1) (map low (range_with_len u m)))
 sum_further low from t u n m x n_is u_is x_is =
     ap (λ (k : ℕ). sum (least_rising from (map low (range_with_len t k)))) n_is
     ∙ (sum_by-cons (λ (y : ℕ). y) (max from (low t)) (least_rising (max from (low t) + 1) (map low (range_with_len (t + 1) m)))

@@ -20,7 +20,8 @@ use Rattle.close_rules.specs.Columns.{is_same, has_same, have_same_columns, has_
 use Rattle.close_rules.specs.Solution.{IsSolution}
 use Rattle.close_rules.proofs.FewColumns.{two_alike, all_counted}
 
-same_marks : (mark other : Mark) (a b : Bool) → Agrees mark a → Agrees other b → is_same mark other ≡ true → a ≡ b
+same_marks : (mark other : Mark) (a b : Bool) → Agrees mark a → Agrees other b
+    → is_same mark other ≡ true → a ≡ b
 same_marks Marked Marked a b x y h = x ∙ sym y
 same_marks Marked Unmarked a b x y h = cc
 same_marks Marked Undecided a b x y h = cc
@@ -30,7 +31,8 @@ same_marks Unmarked Undecided a b x y h = cc
 same_marks Undecided other a b x y h = cc
 
 -- two targets with the same marks on every ballot leave no solution
-pub same_empty : (p : PartialDeck) (deck : List (List Bool)) (t u : ℕ) → IsPartial p → IsSolution p deck → have_same_columns p t u ≡ true → ⊥
+pub same_empty : (p : PartialDeck) (deck : List (List Bool)) (t u : ℕ) → IsPartial p
+    → IsSolution p deck → have_same_columns p t u ≡ true → ⊥
 same_empty p deck t u is solution h =
     let n = target_count p.contests in
     let one = and_parts (nat_lt t n) (nat_lt u n && (not (t == u) && list_all (has_same t u) p.marks)) h in
@@ -50,7 +52,8 @@ same_empty p deck t u is solution h =
     ap (λ (ballot : List Bool). tally.is_marked ballot t) here ∙ (marks ∙ sym (ap (λ (ballot : List Bool). tally.is_marked ballot u) here)))
 
 -- fewer columns than targets leave no solution
-pub columns_empty : (p : PartialDeck) (deck : List (List Bool)) → IsSolution p deck → has_few_columns p ≡ true → ⊥
+pub columns_empty : (p : PartialDeck) (deck : List (List Bool)) → IsSolution p deck
+    → has_few_columns p ≡ true → ⊥
 columns_empty p deck solution h =
     let n = target_count p.contests in
     let few : 2 ^ p.ballots < n = ltb-true (2 ^ p.ballots) n h in

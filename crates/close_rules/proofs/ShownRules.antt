@@ -29,13 +29,16 @@ blank_same [] = refl
 blank_same (mark ∷ row) = ap (λ (b : Bool). not (is_marked mark) && b) (blank_same row)
 
 -- enough ballots are blank
-pub blank_enough : (p : PartialDeck) → lacks_blank p ≡ false → p.rules.blank ≤ count_by is_blank (shown p)
+pub blank_enough : (p : PartialDeck) → lacks_blank p ≡ false
+    → p.rules.blank ≤ count_by is_blank (shown p)
 blank_enough p none =
     let count = count_alike may_be_blank (λ (row : List Mark). is_blank (map is_marked row)) p.marks (λ j d lt. blank_same (get_or p.marks j d)) in
     omega (arith, ltb-false (count_by may_be_blank p.marks) p.rules.blank none, count, count_map (λ (row : List Mark). map is_marked row) is_blank p.marks)
 
 -- and enough are overvoted in a contest
-pub over_enough : (p : PartialDeck) (c : ℕ) → IsPartial p → IsComplete p → lacks_overvoted p c ≡ false → c < length p.contests → (contest_at p.contests c).limit < (contest_at p.contests c).targets
+pub over_enough : (p : PartialDeck) (c : ℕ) → IsPartial p → IsComplete p
+    → lacks_overvoted p c ≡ false → c < length p.contests
+    → (contest_at p.contests c).limit < (contest_at p.contests c).targets
     → p.rules.over ≤ count_by (λ ballot. is_overvoted p.contests ballot c) (shown p)
 over_enough p c is complete none h can =
     let limit = (contest_at p.contests c).limit in
@@ -50,11 +53,14 @@ over_enough p c is complete none h can =
 abbrev AreDecided : List Mark → Type 0
 AreDecided row = AllByRecursion (λ mark. is_undecided mark ≡ false) row
 
-are_decided : (row : List Mark) → ((t : ℕ) → t < length row → is_undecided (get_or row t Undecided) ≡ false) → AreDecided row
+are_decided : (row : List Mark)
+    → ((t : ℕ) → t < length row → is_undecided (get_or row t Undecided) ≡ false) → AreDecided row
 are_decided [] h = tt
 are_decided (mark ∷ row) h = (h 0 (omega arith), are_decided row (λ t lt. h (suc t) (omega (arith, lt))))
 
-less_smaller : (row other : List Mark) → AreDecided row → AreDecided other → length row ≡ length other → slice_cmp bool_cmp (map is_marked row) (map is_marked other) ≡ Less → is_smaller row other ≡ true
+less_smaller : (row other : List Mark) → AreDecided row → AreDecided other
+    → length row ≡ length other → slice_cmp bool_cmp (map is_marked row) (map is_marked other)
+    ≡ Less → is_smaller row other ≡ true
 less_smaller [] [] x y long h = cc
 less_smaller [] (o ∷ other) x y long h = absurd (omega (arith, long))
 less_smaller (m ∷ row) [] x y long h = absurd (omega (arith, long))
@@ -67,7 +73,9 @@ less_smaller (Unmarked ∷ row) (Undecided ∷ other) x y long h = let bad : tru
 less_smaller (Undecided ∷ row) (o ∷ other) x y long h = let bad : true ≡ false = x.0 in cc
 
 -- no ballot is smaller than the next
-pub in_order : (p : PartialDeck) (j : ℕ) → IsPartial p → IsComplete p → is_out_of_order p j ≡ false → j + 1 < p.ballots → slice_cmp bool_cmp (get_or (shown p) j []) (get_or (shown p) (j + 1) []) ≡ Less → ⊥
+pub in_order : (p : PartialDeck) (j : ℕ) → IsPartial p → IsComplete p → is_out_of_order p j ≡ false
+    → j + 1 < p.ballots → slice_cmp bool_cmp (get_or (shown p) j []) (get_or (shown p) (j + 1) [])
+    ≡ Less → ⊥
 in_order p j is complete none h less =
     let row = decided_row p j [] is complete (omega (arith, h)) in
     let next = decided_row p (j + 1) [] is complete h in

@@ -38,11 +38,15 @@ pub record IsLeft (p : PartialDeck) : Type 0 where
 fine : (p : PartialDeck) (t : ℕ) → IsLeft p → t < target_count p.contests → AreFine p t
 fine p t left h = totals_fine p t left.is left.complete (λ c. left.none (Totals c) tt) h
 
-rise : (p : PartialDeck) (t : ℕ) → IsLeft p → t + 1 < target_count p.contests → contest_of p.contests t ≡ contest_of p.contests (t + 1) → own_total p.contests (shown p) t < own_total p.contests (shown p) (t + 1)
+rise : (p : PartialDeck) (t : ℕ) → IsLeft p → t + 1 < target_count p.contests
+    → contest_of p.contests t ≡ contest_of p.contests (t + 1)
+    → own_total p.contests (shown p) t < own_total p.contests (shown p) (t + 1)
 rise p t left h same = totals_rise p t left.is left.complete (λ c. left.none (Totals c) tt) h same
 
 -- the totals of later targets of a contest are greater
-rise_far : (p : PartialDeck) (t k : ℕ) → IsLeft p → t + suc k < target_count p.contests → contest_of p.contests t ≡ contest_of p.contests (t + suc k) → own_total p.contests (shown p) t < own_total p.contests (shown p) (t + suc k)
+rise_far : (p : PartialDeck) (t k : ℕ) → IsLeft p → t + suc k < target_count p.contests
+    → contest_of p.contests t ≡ contest_of p.contests (t + suc k)
+    → own_total p.contests (shown p) t < own_total p.contests (shown p) (t + suc k)
 rise_far p t zero left h same =
     let one : t + suc zero ≡ t + 1 = omega arith in
     subst (λ (u : ℕ). own_total p.contests (shown p) t < own_total p.contests (shown p) u) (sym one) (rise p t left (omega (arith, h)) (same ∙ ap (contest_of p.contests) one))
@@ -70,10 +74,12 @@ shown_obeys p left = record {
 }
 
 -- its totals are known
-pub low_known : (p : PartialDeck) (t : ℕ) → IsLeft p → t < target_count p.contests → lo p t ≡ own_total p.contests (shown p) t
+pub low_known : (p : PartialDeck) (t : ℕ) → IsLeft p → t < target_count p.contests
+    → lo p t ≡ own_total p.contests (shown p) t
 low_known p t left h = let are = fine p t left h in omega (arith, lo_is p t left.is left.complete h, are.above)
 
-pub high_known : (p : PartialDeck) (t : ℕ) → IsLeft p → t < target_count p.contests → hi p t ≡ own_total p.contests (shown p) t
+pub high_known : (p : PartialDeck) (t : ℕ) → IsLeft p → t < target_count p.contests
+    → hi p t ≡ own_total p.contests (shown p) t
 high_known p t left h = let are = fine p t left h in omega (arith, hi_is p t left.is left.complete h, are.below)
 
 fixed : (p : PartialDeck) (c : ℕ) → IsLeft p → c < length p.contests → is_fixed p c ≡ true
@@ -82,7 +88,8 @@ fixed p c left h =
     (λ i lt. let t_in = nth_within p.contests c i h lt in
     eq-eqb (lo p (first_target p.contests c + i)) (hi p (first_target p.contests c + i)) (low_known p (first_target p.contests c + i) left t_in ∙ sym (high_known p (first_target p.contests c + i) left t_in)))
 
-lows_known : (p : PartialDeck) (c : ℕ) → IsLeft p → c < length p.contests → totals_in p.contests (shown p) c ≡ lows p c
+lows_known : (p : PartialDeck) (c : ℕ) → IsLeft p → c < length p.contests
+    → totals_in p.contests (shown p) c ≡ lows p c
 lows_known p c left h =
     totals_are p.contests (shown p) c h
     ∙ alike (own_total p.contests (shown p)) (lo p) (first_target p.contests c) (contest_at p.contests c).targets
@@ -90,7 +97,8 @@ lows_known p c left h =
     let place : first_target p.contests c + (t - first_target p.contests c) ≡ t = omega (arith, from) in
     sym (low_known p t left (omega (arith, place, nth_within p.contests c (t - first_target p.contests c) h (omega (arith, from, to))))))
 
-all_true : (a b c d e : Bool) → a ≡ true → b ≡ true → c ≡ true → d ≡ true → e ≡ true → (a && (b && (c && (d && e)))) ≡ true
+all_true : (a b c d e : Bool) → a ≡ true → b ≡ true → c ≡ true → d ≡ true → e ≡ true
+    → (a && (b && (c && (d && e)))) ≡ true
 all_true a b c d e h i j k l = λ x. h x && (i x && (j x && (k x && l x)))
 
 shape_passes : (c d : Contest) → c ≡ d → has_shape_of c d ≡ true
@@ -113,7 +121,8 @@ shown_canonical p left = record {
 }
 
 -- it is a solution, if it is robust
-pub shown_solution : (p : PartialDeck) → IsPartial p → IsComplete p → IsRobust p.contests (shown p) → ((r : Reason) → IsCheap r → refutes p r ≡ false) → IsSolution p (shown p)
+pub shown_solution : (p : PartialDeck) → IsPartial p → IsComplete p → IsRobust p.contests (shown p)
+    → ((r : Reason) → IsCheap r → refutes p r ≡ false) → IsSolution p (shown p)
 shown_solution p is complete robust none =
     let left : IsLeft p = record { is = is; complete = complete; none = none } in
     record {
@@ -129,7 +138,9 @@ shown_solution p is complete robust none =
     }
 
 -- and if not it still obeys the rules and is canonical
-pub shown_left : (p : PartialDeck) → IsPartial p → IsComplete p → ((r : Reason) → IsCheap r → refutes p r ≡ false) → Obeys p.contests p.rules (shown p) × IsCanonical p.contests (shown p)
+pub shown_left : (p : PartialDeck) → IsPartial p → IsComplete p
+    → ((r : Reason) → IsCheap r → refutes p r ≡ false)
+    → Obeys p.contests p.rules (shown p) × IsCanonical p.contests (shown p)
 shown_left p is complete none =
     let left : IsLeft p = record { is = is; complete = complete; none = none } in
     (shown_obeys p left, shown_canonical p left)

@@ -18,8 +18,10 @@ use Rattle.close_rules.proofs.Misassigned.{passed_is}
 use Rattle.close_rules.proofs.Passed.{at_number, second}
 
 -- a vote rests on the marks of one contest
-pub votes_alike : (contests : List Contest) (a b : List Bool) (u : ℕ) → u < target_count contests → length a ≡ target_count contests → length b ≡ target_count contests
-    → ((v : ℕ) → v < target_count contests → contest_of contests v ≡ contest_of contests u → tally.is_marked a v ≡ tally.is_marked b v) → votes_for contests a u ≡ votes_for contests b u
+pub votes_alike : (contests : List Contest) (a b : List Bool) (u : ℕ) → u < target_count contests
+    → length a ≡ target_count contests → length b ≡ target_count contests
+    → ((v : ℕ) → v < target_count contests → contest_of contests v ≡ contest_of contests u
+    → tally.is_marked a v ≡ tally.is_marked b v) → votes_for contests a u ≡ votes_for contests b u
 votes_alike contests a b u h a_long b_long same =
     let c = contest_of contests u in
     let c_in = (is_of contests u h).contest in
@@ -38,11 +40,15 @@ votes_alike contests a b u h a_long b_long same =
 -- what is known of a misassignment and the contests that it touches
 pub record Touches (p : PartialDeck) (s : List ℕ) : Type 0 where
   pub is : IsMisassignment (target_count p.contests) s
-  pub left : (u : ℕ) → u < target_count p.contests → is_left p.contests s (contest_of p.contests u) ≡ true → source s u ≡ u
-  pub kept : (u : ℕ) → u < target_count p.contests → is_left p.contests s (contest_of p.contests u) ≡ false → keeps_totals p s (contest_of p.contests u) ≡ true
+  pub left : (u : ℕ) → u < target_count p.contests
+      → is_left p.contests s (contest_of p.contests u) ≡ true → source s u ≡ u
+  pub kept : (u : ℕ) → u < target_count p.contests
+      → is_left p.contests s (contest_of p.contests u) ≡ false
+      → keeps_totals p s (contest_of p.contests u) ≡ true
 
 -- a test of the targets of a contest, at one of them
-pub at_target : (contests : List Contest) (test : ℕ → Bool) (u : ℕ) → u < target_count contests → list_all test (targets_of contests (contest_of contests u)) ≡ true → test u ≡ true
+pub at_target : (contests : List Contest) (test : ℕ → Bool) (u : ℕ) → u < target_count contests
+    → list_all test (targets_of contests (contest_of contests u)) ≡ true → test u ≡ true
 at_target contests test u h all =
     let of = is_of contests u h in
     let first = first_target contests (contest_of contests u) in

@@ -24,7 +24,9 @@ neither true b rest h = cc
 neither false true rest h = cc
 neither false false rest h = (refl, h)
 
-pub can_rise : (low high : ℕ → ℕ) (most from t n : ℕ) → is_above most (least_rising from (map low (range_with_len t n))) (map high (range_with_len t n)) ≡ false → CanRise low high from t n
+pub can_rise : (low high : ℕ → ℕ) (most from t n : ℕ)
+    → is_above most (least_rising from (map low (range_with_len t n)))
+    (map high (range_with_len t n)) ≡ false → CanRise low high from t n
 can_rise low high most from t zero h = record { between = λ i lt. absurd (omega (arith, lt)); begin = λ i lt. absurd (omega (arith, lt)); rise = λ i lt. absurd (omega (arith, lt)) }
 can_rise low high most from t (suc n) h =
     let x = max from (low t) in
@@ -44,15 +46,18 @@ can_rise low high most from t (suc n) h =
     next : (i : ℕ) → t + 1 + i ≡ t + suc i
     next i = omega arith
 
-    between : (i : ℕ) → i < suc n → max from (low t) ≤ high t → CanRise low high (max from (low t) + 1) (t + 1) n → low (t + i) ≤ high (t + i)
+    between : (i : ℕ) → i < suc n → max from (low t) ≤ high t
+        → CanRise low high (max from (low t) + 1) (t + 1) n → low (t + i) ≤ high (t + i)
     between zero lt fits more = subst (λ (u : ℕ). low u ≤ high u) (sym here) (omega (arith, fits))
     between (suc i) lt fits more = subst (λ (u : ℕ). low u ≤ high u) (next i) (more.between i (omega (arith, lt)))
 
-    begin : (i : ℕ) → i < suc n → max from (low t) ≤ high t → CanRise low high (max from (low t) + 1) (t + 1) n → from ≤ high (t + i)
+    begin : (i : ℕ) → i < suc n → max from (low t) ≤ high t
+        → CanRise low high (max from (low t) + 1) (t + 1) n → from ≤ high (t + i)
     begin zero lt fits more = subst (λ (u : ℕ). from ≤ high u) (sym here) (omega (arith, fits))
     begin (suc i) lt fits more = subst (λ (u : ℕ). from ≤ high u) (next i) (omega (arith, more.begin i (omega (arith, lt))))
 
-    rise : (i : ℕ) → i + 1 < suc n → max from (low t) ≤ high t → CanRise low high (max from (low t) + 1) (t + 1) n → low (t + i) < high (t + (i + 1))
+    rise : (i : ℕ) → i + 1 < suc n → max from (low t) ≤ high t
+        → CanRise low high (max from (low t) + 1) (t + 1) n → low (t + i) < high (t + (i + 1))
     rise zero lt fits more =
         let one : t + 1 + 0 ≡ t + (0 + 1) = omega arith in
         let up : low t < high (t + (0 + 1)) = subst (λ (u : ℕ). low t < high u) one (omega (arith, more.begin 0 (omega (arith, lt)))) in
@@ -67,12 +72,15 @@ pub record AreFine (p : PartialDeck) (t : ℕ) : Type 0 where
   pub below : own_total p.contests (shown p) t ≤ (bounds_at p t).high
   pub least : p.rules.least ≤ own_total p.contests (shown p) t
 
-contest_rises : (p : PartialDeck) (c : ℕ) → c < length p.contests → has_no_totals p c ≡ false → CanRise (lo p) (hi p) p.rules.least (first_target p.contests c) (contest_at p.contests c).targets
+contest_rises : (p : PartialDeck) (c : ℕ) → c < length p.contests → has_no_totals p c ≡ false
+    → CanRise (lo p) (hi p) p.rules.least (first_target p.contests c)
+    (contest_at p.contests c).targets
 contest_rises p c h none =
     can_rise (lo p) (hi p) (most_voting p c) p.rules.least (first_target p.contests c) (contest_at p.contests c).targets
     (not_second (nat_lt c (length p.contests)) (is_above (most_voting p c) (least_totals p c) (highs p c)) none (lt-ltb c (length p.contests) h))
 
-pub totals_fine : (p : PartialDeck) (t : ℕ) → IsPartial p → IsComplete p → ((c : ℕ) → has_no_totals p c ≡ false) → t < target_count p.contests → AreFine p t
+pub totals_fine : (p : PartialDeck) (t : ℕ) → IsPartial p → IsComplete p
+    → ((c : ℕ) → has_no_totals p c ≡ false) → t < target_count p.contests → AreFine p t
 totals_fine p t is complete none h =
     let c = contest_of p.contests t in
     let of = is_of p.contests t h in
@@ -87,7 +95,10 @@ totals_fine p t is complete none h =
     record { above = omega (arith, between, low, high); below = omega (arith, between, low, high); least = omega (arith, begin, high) }
 
 -- the totals of a contest rise
-pub totals_rise : (p : PartialDeck) (t : ℕ) → IsPartial p → IsComplete p → ((c : ℕ) → has_no_totals p c ≡ false) → t + 1 < target_count p.contests → contest_of p.contests t ≡ contest_of p.contests (t + 1) → own_total p.contests (shown p) t < own_total p.contests (shown p) (t + 1)
+pub totals_rise : (p : PartialDeck) (t : ℕ) → IsPartial p → IsComplete p
+    → ((c : ℕ) → has_no_totals p c ≡ false) → t + 1 < target_count p.contests
+    → contest_of p.contests t ≡ contest_of p.contests (t + 1)
+    → own_total p.contests (shown p) t < own_total p.contests (shown p) (t + 1)
 totals_rise p t is complete none h same =
     let c = contest_of p.contests t in
     let t_in : t < target_count p.contests = omega (arith, h) in

@@ -27,12 +27,14 @@ fails_by true b h none = let bad : true ≡ false = sym (h refl) ∙ none in abs
 fails_by false b h none = refl
 
 -- an undecided mark is the same as no other
-one_fails : {X : Type 0} (test : X → Bool) (xs : List X) (j : ℕ) (d : X) → j < length xs → test (get_or xs j d) ≡ false → list_all test xs ≡ false
+one_fails : {X : Type 0} (test : X → Bool) (xs : List X) (j : ℕ) (d : X) → j < length xs
+    → test (get_or xs j d) ≡ false → list_all test xs ≡ false
 one_fails test [] j d lt none = absurd (omega (arith, lt))
 one_fails test (x ∷ xs) zero d lt none = λ i. none i && list_all test xs
 one_fails test (x ∷ xs) (suc j) d lt none = (λ i. test x && one_fails test xs j d (omega (arith, lt)) none i) ∙ none_and (test x)
 
-pub undecided_column : (p : PartialDeck) (t j : ℕ) → IsPartial p → j < p.ballots → mark_at p j t ≡ Undecided → (u : ℕ) → have_same_columns p t u ≡ false
+pub undecided_column : (p : PartialDeck) (t j : ℕ) → IsPartial p → j < p.ballots
+    → mark_at p j t ≡ Undecided → (u : ℕ) → have_same_columns p t u ≡ false
 undecided_column p t j is lt undecided u =
     let here : has_same t u (get_or p.marks j []) ≡ false = ap (λ (m : Mark). is_same m (mark_at p j u)) undecided in
     let column = one_fails (has_same t u) p.marks j [] (omega (arith, lt, is.height)) here in
@@ -54,7 +56,8 @@ same_swapped Undecided Marked = refl
 same_swapped Undecided Unmarked = refl
 same_swapped Undecided Undecided = refl
 
-pub columns_swapped : (p : PartialDeck) (t u : ℕ) → have_same_columns p u t ≡ false → have_same_columns p t u ≡ false
+pub columns_swapped : (p : PartialDeck) (t u : ℕ) → have_same_columns p u t ≡ false
+    → have_same_columns p t u ≡ false
 columns_swapped p t u none =
     fails_by (have_same_columns p t u) (have_same_columns p u t)
     (λ h.
@@ -76,7 +79,8 @@ not_itself p t =
     ∙ ((λ i. nat_lt t (target_count p.contests) && none_and (nat_lt t (target_count p.contests)) i) ∙ none_and (nat_lt t (target_count p.contests)))
 
 -- contests whose totals aren't known, or that don't come before the other, aren't compared
-pub not_compared : (p : PartialDeck) (c d : ℕ) → are_comparable p c d ≡ false → (are_twins p c d ≡ false) × (are_out_of_order p c d ≡ false)
+pub not_compared : (p : PartialDeck) (c d : ℕ) → are_comparable p c d ≡ false
+    → (are_twins p c d ≡ false) × (are_out_of_order p c d ≡ false)
 not_compared p c d none =
     let order = slice_cmp nat_cmp (lows p c) (lows p d) in
     (λ i. none i && is_eq order, λ i. none i && is_gt order)
@@ -96,7 +100,9 @@ few_of p contest =
     let most = cond (can_overvote contest) (p.ballots - p.rules.blank - p.rules.over) (p.ballots - p.rules.blank) in
     nat_lt (length (rising_lists contest.targets p.rules.least (most + 1 - p.rules.least) (contest.limit * most))) (count_by (has_shape_of contest) p.contests)
 
-pub alike_pigeon : (p : PartialDeck) (c d : ℕ) → c < length p.contests → d < c → contest_at p.contests d ≡ contest_at p.contests c → has_few_lists p d ≡ false → has_few_lists p c ≡ false
+pub alike_pigeon : (p : PartialDeck) (c d : ℕ) → c < length p.contests → d < c
+    → contest_at p.contests d ≡ contest_at p.contests c → has_few_lists p d ≡ false
+    → has_few_lists p c ≡ false
 alike_pigeon p c d h lt same none =
     let first : nat_lt c (length p.contests) ≡ nat_lt d (length p.contests) = lt-ltb c (length p.contests) h ∙ sym (lt-ltb d (length p.contests) (omega (arith, h, lt))) in
     (λ i. first i && few_of p (sym same i)) ∙ none

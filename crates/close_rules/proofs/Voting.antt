@@ -25,7 +25,9 @@ none_counted (mark ∷ marks) h =
     omega (arith, sum_by-cons (λ (m : Bool). cond m 1 0) mark marks, none, none_counted marks (All-tail (λ (m : Bool). m ≡ false) mark marks h))
 
 -- a blank ballot marks nothing in a contest
-blank_marks : (contests : List Contest) (ballot : List Bool) (c : ℕ) → length ballot ≡ target_count contests → is_blank ballot ≡ true → mark_count contests ballot c ≡ 0
+blank_marks : (contests : List Contest) (ballot : List Bool) (c : ℕ)
+    → length ballot ≡ target_count contests → is_blank ballot ≡ true
+    → mark_count contests ballot c ≡ 0
 blank_marks contests ballot c long h =
     let first = first_target contests c in
     let last = first_target contests (c + 1) in
@@ -36,7 +38,9 @@ blank_marks contests ballot c long h =
     slice_at ballot first last i d i_in ∙ not-true (get_or ballot (first + i) d) (all (first + i) d (omega (arith, i_in, long, first_le contests (c + 1)))))
 
 -- so it is not overvoted in it
-blank_not_over : (contests : List Contest) (ballot : List Bool) (c : ℕ) → length ballot ≡ target_count contests → is_blank ballot ≡ true → is_overvoted contests ballot c ≡ false
+blank_not_over : (contests : List Contest) (ballot : List Bool) (c : ℕ)
+    → length ballot ≡ target_count contests → is_blank ballot ≡ true
+    → is_overvoted contests ballot c ≡ false
 blank_not_over contests ballot c long h = le-ltb (contest_at contests c).limit (mark_count contests ballot c) (omega (arith, blank_marks contests ballot c long h))
 
 -- a ballot is one of the three at most
@@ -47,7 +51,9 @@ one_kind false true h = omega arith
 one_kind false false h = omega arith
 
 -- counts of ballots of three kinds
-apart : {X : Type 0} (p q r : X → Bool) (xs : List X) → All (λ x. cond (p x) 1 0 + (cond (q x) 1 0 + cond (r x) 1 0) ≤ 1) xs → count_by p xs + (count_by q xs + count_by r xs) ≤ length xs
+apart : {X : Type 0} (p q r : X → Bool) (xs : List X)
+    → All (λ x. cond (p x) 1 0 + (cond (q x) 1 0 + cond (r x) 1 0) ≤ 1) xs
+    → count_by p xs + (count_by q xs + count_by r xs) ≤ length xs
 apart p q r [] h = omega arith
 apart {X} p q r (x ∷ xs) h =
     omega (
@@ -60,27 +66,35 @@ apart {X} p q r (x ∷ xs) h =
     )
 
 -- no more ballots of a solution vote in a contest than can do so
-pub few_voting : (p : PartialDeck) (deck : List (List Bool)) (c : ℕ) → IsSolution p deck → c < length p.contests → count_by (is_voting p.contests c) deck ≤ most_voting p c
+pub few_voting : (p : PartialDeck) (deck : List (List Bool)) (c : ℕ) → IsSolution p deck
+    → c < length p.contests → count_by (is_voting p.contests c) deck ≤ most_voting p c
 few_voting p deck c solution h = by_kind (can_overvote (contest_at p.contests c)) refl
   where
-    kinds : count_by is_blank deck + (count_by (λ ballot. is_overvoted p.contests ballot c) deck + count_by (is_voting p.contests c) deck) ≤ p.ballots
+    kinds : count_by is_blank deck + (count_by (λ ballot. is_overvoted p.contests ballot c)
+        deck + count_by (is_voting p.contests c) deck) ≤ p.ballots
     kinds =
         let three = apart is_blank (λ (ballot : List Bool). is_overvoted p.contests ballot c) (is_voting p.contests c) deck
         (λ j d lt. one_kind (is_blank (get_or deck j d)) (is_overvoted p.contests (get_or deck j d) c) (blank_not_over p.contests (get_or deck j d) c (solution.good.fits j d lt))) in
         omega (arith, three, solution.completion.size)
 
-    by_kind : (can : Bool) → can_overvote (contest_at p.contests c) ≡ can → count_by (is_voting p.contests c) deck ≤ cond can (p.ballots - p.rules.blank - p.rules.over) (p.ballots - p.rules.blank)
+    by_kind : (can : Bool) → can_overvote (contest_at p.contests c) ≡ can
+        → count_by (is_voting p.contests c) deck
+        ≤ cond can (p.ballots - p.rules.blank - p.rules.over) (p.ballots - p.rules.blank)
     by_kind true can = omega (arith, kinds, solution.good.obeys.blank, solution.good.obeys.over c h (ltb-true (contest_at p.contests c).limit (contest_at p.contests c).targets can))
     by_kind false can = omega (arith, kinds, solution.good.obeys.blank)
 
 -- a ballot that votes for a target votes in its contest
-pub vote_is_voting : (contests : List Contest) (ballot : List Bool) (t : ℕ) → t < target_count contests → length ballot ≡ target_count contests → votes_for contests ballot t ≡ true → is_voting contests (contest_of contests t) ballot ≡ true
+pub vote_is_voting : (contests : List Contest) (ballot : List Bool) (t : ℕ)
+    → t < target_count contests → length ballot ≡ target_count contests
+    → votes_for contests ballot t ≡ true → is_voting contests (contest_of contests t) ballot ≡ true
 vote_is_voting contests ballot t h long votes =
     let over = is_overvoted contests ballot (contest_of contests t) in
     let parts = and_parts (is_marked ballot t) (not over) votes in
     by_blank (is_blank ballot) refl parts.0 parts.1
   where
-    by_blank : (blank : Bool) → is_blank ballot ≡ blank → is_marked ballot t ≡ true → not (is_overvoted contests ballot (contest_of contests t)) ≡ true → (not blank && not (is_overvoted contests ballot (contest_of contests t))) ≡ true
+    by_blank : (blank : Bool) → is_blank ballot ≡ blank → is_marked ballot t ≡ true
+        → not (is_overvoted contests ballot (contest_of contests t)) ≡ true
+        → (not blank && not (is_overvoted contests ballot (contest_of contests t))) ≡ true
     by_blank false e marked fine = fine
     by_blank true e marked fine =
         let none : get_or ballot t false ≡ false = not-true (get_or ballot t false) (AllPass-from_list_all not ballot e t false (omega (arith, h, long))) in

@@ -25,4 +25,5 @@ lacks_blank p = nat_lt (count_by may_be_blank p.marks) p.rules.blank
 abbrev pub lacks_overvoted : PartialDeck → ℕ → Bool
 lacks_overvoted p c =
     nat_lt c (length p.contests)
-    && (can_overvote (contest_at p.contests c) && nat_lt (count_by (may_be_overvoted p.contests c) p.marks) p.rules.over)
+    && (can_overvote (contest_at p.contests c)
+    && nat_lt (count_by (may_be_overvoted p.contests c) p.marks) p.rules.over)

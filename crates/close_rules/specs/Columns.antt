@@ -23,7 +23,8 @@ has_same t u row = is_same (get_or row t Undecided) (get_or row u Undecided)
 -- whether two targets have marks that are decided and the same on every ballot
 abbrev pub have_same_columns : PartialDeck → ℕ → ℕ → Bool
 have_same_columns p t u =
-    nat_lt t (target_count p.contests) && (nat_lt u (target_count p.contests) && (not (t == u) && list_all (has_same t u) p.marks))
+    nat_lt t (target_count p.contests) && (nat_lt u (target_count p.contests)
+    && (not (t == u) && list_all (has_same t u) p.marks))
 
 -- whether there are fewer columns of marks on the ballots than targets
 abbrev pub has_few_columns : PartialDeck → Bool

@@ -24,7 +24,9 @@ has_shape_of c d = (c.limit == d.limit) && (c.targets == d.targets)
 -- whether c comes before d, both have the same shape, and the totals of both are known
 abbrev pub are_comparable : PartialDeck → ℕ → ℕ → Bool
 are_comparable p c d =
-    nat_lt c d && (nat_lt d (length p.contests) && (has_shape_of (contest_at p.contests c) (contest_at p.contests d) && (is_fixed p c && is_fixed p d)))
+    nat_lt c d && (nat_lt d (length p.contests)
+    && (has_shape_of (contest_at p.contests c) (contest_at p.contests d)
+    && (is_fixed p c && is_fixed p d)))
 
 -- whether, besides, the totals are the same
 abbrev pub are_twins : PartialDeck → ℕ → ℕ → Bool

@@ -11,8 +11,10 @@ use Rattle.close_rules.specs.declared.label.Label.TheVariants.{Mark as MarkOf, S
 -- whether a label can be chosen: the mark is undecided, or the number is above `lo` and at most
 -- `hi`
 abbrev pub is_allowed : PartialDeck → Label → Bool
-is_allowed p (MarkOf j t) = nat_lt j p.ballots && (nat_lt t (target_count p.contests) && is_undecided (mark_at p j t))
-is_allowed p (Split t x) = nat_lt t (target_count p.contests) && (nat_lt (lo p t) x && nat_le x (hi p t))
+is_allowed p (MarkOf j t) =
+    nat_lt j p.ballots && (nat_lt t (target_count p.contests) && is_undecided (mark_at p j t))
+is_allowed p (Split t x) =
+    nat_lt t (target_count p.contests) && (nat_lt (lo p t) x && nat_le x (hi p t))
 
 -- the first kid (0) and the second: marked, then unmarked; the total below the number, then from
 -- it on

@@ -20,8 +20,7 @@ rising_lists n least many room =
     filter (λ totals. nat_le (sum totals) room) (choices n (range_with_len least many))
 
 -- the lists of totals that contests of the shape of c can have: strictly rising, from the least
--- total of
--- the rules to the number of ballots that can vote, with a sum of at most all votes
+-- total of the rules to the number of ballots that can vote, with a sum of at most all votes
 abbrev pub lists_of_totals : PartialDeck → ℕ → List (List ℕ)
 lists_of_totals p c =
     let contest = contest_at p.contests c in

@@ -28,7 +28,8 @@ can_overvote c = nat_lt c.limit c.targets
 -- how many ballots can vote in contest c: those that needn't be blank nor overvoted in it
 abbrev pub most_voting : PartialDeck → ℕ → ℕ
 most_voting p c =
-    if can_overvote (contest_at p.contests c) then p.ballots - p.rules.blank - p.rules.over else p.ballots - p.rules.blank
+    if can_overvote (contest_at p.contests c) then p.ballots - p.rules.blank - p.rules.over
+    else p.ballots - p.rules.blank
 
 -- whether some entry is above a number, or above the entry at its place in a second list
 abbrev pub is_above : ℕ → List ℕ → List ℕ → Bool
@@ -39,4 +40,5 @@ is_above most (low ∷ lows) (high
 
 -- whether some least total of contest c is above what its total can be
 abbrev pub has_no_totals : PartialDeck → ℕ → Bool
-has_no_totals p c = nat_lt c (length p.contests) && is_above (most_voting p c) (least_totals p c) (highs p c)
+has_no_totals p c =
+    nat_lt c (length p.contests) && is_above (most_voting p c) (least_totals p c) (highs p c)

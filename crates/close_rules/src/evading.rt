@@ -89,8 +89,8 @@ fn moves_unseen(state: &Partial, s: &Misassignment) -> bool
     !s.is_identity() && keeps_contests(state, s)
 }
 
-/// Whether a misassignment isn't the identity, and each contest that it doesn't leave as it is keeps
-/// its totals.
+/// Whether a misassignment isn't the identity, and each contest that it doesn't leave as it is
+/// keeps its totals.
 pub fn evades(state: &Partial, s: &Misassignment) -> bool
     ensures { result ≡ evades state.now s.now }
 {

@@ -62,7 +62,8 @@ pub fn are_twins(state: &Partial, c: u16, d: u16) -> bool
     are_comparable(state, c, d) && compare_lows(state, c, d) == Ordering::Equal
 }
 
-/// Whether two contests of one shape have totals that are known, and those of the first are greater.
+/// Whether two contests of one shape have totals that are known, and those of the first are
+/// greater.
 pub fn are_out_of_order(state: &Partial, c: u16, d: u16) -> bool
     ensures { result ≡ are_out_of_order state.now c d }
 {

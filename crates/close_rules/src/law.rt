@@ -15,15 +15,15 @@ ghost use Rattle.close_rules.specs.Moves.{is_allowed, kid_of};
 ghost use Rattle.close_rules.specs.Refutes.{refutes, IsCheap};
 ghost use Rattle.close_rules.specs.Solution.{IsSolution};
 
-/// A law: where a reason holds of a partial deck, no good canonical deck is left in it. The call does
-/// nothing.
+/// A law: where a reason holds of a partial deck, no good canonical deck is left in it. The call
+/// does nothing.
 pub fn refuted_is_empty()
     ensures { (p : PartialDeck) (reason : Reason) (deck : List (List Bool)) → IsPartial p →
         refutes p reason ≡ true → IsSolution p deck → ⊥ }
 {}
 
-/// A law: the kids of a partial deck under an allowed label are partial decks, from which `undo` leads
-/// back, and they share its solutions. The call does nothing.
+/// A law: the kids of a partial deck under an allowed label are partial decks, from which `undo`
+/// leads back, and they share its solutions. The call does nothing.
 pub fn kids_share_solutions()
     ensures partial { (p : PartialDeck) (label : Label) (kid : ℕ) → IsPartial p →
         is_allowed p label ≡ true → IsPartial (kid_of p label kid) }
@@ -37,10 +37,10 @@ pub fn kids_share_solutions()
         IsSolution (kid_of p label 0) deck ⊎ IsSolution (kid_of p label 1) deck }
 {}
 
-/// A law: a complete partial deck is judged by the reasons. Where none without a misassignment holds,
-/// the deck that it shows obeys the rules and is canonical, and it is good if it is robust; no such reason
-/// holds with bounds that say nothing either; and a misassignment that shows that it isn't robust is a
-/// reason. The call does nothing.
+/// A law: a complete partial deck is judged by the reasons. Where none without a misassignment
+/// holds, the deck that it shows obeys the rules and is canonical, and it is good if it is robust;
+/// no such reason holds with bounds that say nothing either; and a misassignment that shows that it
+/// isn't robust is a reason. The call does nothing.
 pub fn complete_is_judged()
     ensures solution { (p : PartialDeck) → IsPartial p → IsComplete p →
         IsRobust p.contests (shown p) → ((r : Reason) → IsCheap r → refutes p r ≡ false) →

@@ -34,10 +34,8 @@ fn least_sum(from: u16, n: u16) -> u32
 }
 
 // How many strictly rising lists of n numbers there are where `gap` numbers are left out and the
-// sum is
-// at most `spare` above the least, or `most` where there are more. It stops once there are as
-// many: each
-// list takes at most n calls, and no call is in vain.
+// sum is at most `spare` above the least, or `most` where there are more. It stops once there are
+// as many: each list takes at most n calls, and no call is in vain.
 fn count_lists(most: u16, n: u16, gap: u16, spare: u32) -> u16
     requires short { n + gap ≤ 2048 }
     ensures few { result ≤ most }
@@ -59,8 +57,7 @@ fn count_lists(most: u16, n: u16, gap: u16, spare: u32) -> u16
 }
 
 // How many lists of totals there are for contests of the shape of contest c, or `most` where there
-// are
-// more.
+// are more.
 fn count_totals(state: &Partial, c: u16, most: u16) -> u16
     requires { c < length state.now.contests }
     ensures { result ≡ min most (length (lists_of_totals state.now c)) }

@@ -14,7 +14,8 @@ use crate::totals::has_no_totals;
 use deck_state::Partial;
 
 /// Whether the reason holds of the partial deck, so that no good canonical deck is left in it. A
-/// reason with a number out of range, or with a misassignment of another number of targets, doesn't.
+/// reason with a number out of range, or with a misassignment of another number of targets,
+/// doesn't.
 pub fn refutes(state: &Partial, reason: &Reason) -> bool
     ensures { result ≡ refutes state.now reason.now }
 {

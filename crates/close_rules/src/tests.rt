@@ -100,9 +100,8 @@ fn decide(partial: &mut Partial, marks: [bool; 4]) {
 }
 
 // Decks of two ballots over a contest of two targets and one vote: the marks, whether the ballots
-// are
-// in order, whether the columns differ, whether the exchange of the targets changes the totals, and
-// whether no reason but this exchange holds.
+// are in order, whether the columns differ, whether the exchange of the targets changes the totals,
+// and whether no reason but this exchange holds.
 #[test]
 fn complete_decks(rt: HostRuntime) -> Result<(), Fail> {
     let table = [
@@ -137,9 +136,8 @@ fn asked_ballots(rt: HostRuntime) -> Result<(), Fail> {
     Ok(())
 }
 
-// Contests of one vote and one target, no blank ballot asked for: their total is 0, 1, .., k, so
-// up to
-// k + 1 of them have different ones.
+// Contests of one vote and one target, no blank ballot asked for: their total is 0, 1, .., k, so up
+// to k + 1 of them have different ones.
 #[test]
 fn lists_are_counted(rt: HostRuntime) -> Result<(), Fail> {
     let three = open(rt.alloc(), &[ONE, ONE, ONE], 0, 1)?;
@@ -169,10 +167,8 @@ fn refutes_by_count<R: Abort + AllocGlobal>(
 }
 
 // Lists of two different totals from 1 to S with a sum of at most S, where one ballot is blank and
-// one
-// overvoted: one where S is 3, two where it is 4, four where it is 5. Contests of another limit
-// don't
-// count.
+// one overvoted: one where S is 3, two where it is 4, four where it is 5. Contests of another limit
+// don't count.
 #[test]
 fn lists_of_two(rt: HostRuntime) -> Result<(), Fail> {
     let pair = [TWO, TWO];

@@ -19,7 +19,9 @@ use Rattle.deck_builder.proofs.Raised.{few_marks, least_marks, marks_rise}
 use Rattle.deck_builder.proofs.Rounds.{spread}
 use Rattle.deck_builder.proofs.WorkingRows.{working_long, working_votes}
 
-in_three : (f : List Bool → Bool) (p : Pattern) → count_by f (pattern_ballots p) ≡ count_by f (over_rows p) + count_by f (working_rows p) + count_by f (blank_rows p)
+in_three : (f : List Bool → Bool) (p : Pattern)
+    → count_by f (pattern_ballots p)
+    ≡ count_by f (over_rows p) + count_by f (working_rows p) + count_by f (blank_rows p)
 in_three f p =
     omega (arith, sum_by-append (λ (b : List Bool). cond (f b) 1 0) (over_rows p ++ working_rows p) (blank_rows p), sum_by-append (λ (b : List Bool). cond (f b) 1 0) (over_rows p) (working_rows p))
 
@@ -33,7 +35,8 @@ fit p =
     (All-replicate long p.rules.blank (unmarked p) (length-replicate (target_count p.contests) false))
 
 -- votes ballot by ballot
-own : (p : Pattern) (t : ℕ) → own_total p.contests (pattern_ballots p) t ≡ count_by (λ ballot. votes_for p.contests ballot t) (pattern_ballots p)
+own : (p : Pattern) (t : ℕ) → own_total p.contests (pattern_ballots p) t
+    ≡ count_by (λ ballot. votes_for p.contests ballot t) (pattern_ballots p)
 own p t =
     count_alike (λ (b : List Bool). votes_for p.contests (reading b (identity (target_count p.contests))) t) (λ (b : List Bool). votes_for p.contests b t) (pattern_ballots p)
     (λ j d lt. ap (λ (b : List Bool). votes_for p.contests b t) (reading_identity (get_or (pattern_ballots p) j d) (target_count p.contests) (fit p j d lt)))
@@ -43,7 +46,10 @@ abbrev full_votes : Pattern → ℕ → ℕ
 full_votes p c = p.rules.over * cond (not (is_overvoted p.contests (full p) c)) 1 0
 
 -- the total of target i of contest c
-total_is : (p : Pattern) (c i : ℕ) → c < length p.contests → FitsContest p c → i < (contest_at p.contests c).targets → own_total p.contests (pattern_ballots p) (first_target p.contests c + i) ≡ full_votes p c + mark_total p c i
+total_is : (p : Pattern) (c i : ℕ) → c < length p.contests → FitsContest p c
+    → i < (contest_at p.contests c).targets
+    → own_total p.contests (pattern_ballots p) (first_target p.contests c + i)
+    ≡ full_votes p c + mark_total p c i
 total_is p c i h fits lt =
     let t = first_target p.contests c + i in
     let votes : List Bool → Bool = λ b. votes_for p.contests b t in
@@ -70,7 +76,9 @@ place_of p c t of = record {
   at = omega (arith, of.from);
 }
 
-total_at : (p : Pattern) (c t : ℕ) → Fits p → IsPlace p c t → own_total p.contests (pattern_ballots p) t ≡ full_votes p c + mark_total p c (t - first_target p.contests c)
+total_at : (p : Pattern) (c t : ℕ) → Fits p → IsPlace p c t
+    → own_total p.contests (pattern_ballots p) t
+    ≡ full_votes p c + mark_total p c (t - first_target p.contests c)
 total_at p c t fits is = ap (own_total p.contests (pattern_ballots p)) is.at ∙ total_is p c (t - first_target p.contests c) is.contest (fits c is.contest) is.within
 
 pub obeyed : (p : Pattern) → Fits p → Obeys p.contests p.rules (pattern_ballots p)

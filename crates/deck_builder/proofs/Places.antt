@@ -18,7 +18,8 @@ run_at p c i h lt =
     ∙ (λ k. record { place = place p c (back k); marks = mark_total p c (back k) })
 
 -- one more run
-pub runs_more : (p : Pattern) (c i : ℕ) (runs new : List Run) (run : Run) → c < length p.contests → i < size p c → runs ≡ runs_of p (first_target p.contests c + i)
+pub runs_more : (p : Pattern) (c i : ℕ) (runs new : List Run) (run : Run) → c < length p.contests
+    → i < size p c → runs ≡ runs_of p (first_target p.contests c + i)
     → run ≡ record { place = place p c i; marks = mark_total p c i } → new ≡ runs ++ run ∷ [] → new ≡ runs_of p (first_target p.contests c + (i + 1))
 runs_more p c i runs new run h lt before is made =
     let next : first_target p.contests c + i + 1 ≡ first_target p.contests c + (i + 1) = omega arith in
@@ -28,13 +29,16 @@ pub place_more : (p : Pattern) (c i : ℕ) → place p c (i + 1) ≡ place p c i
 place_more p c i = omega (arith, sum_more (mark_total p c) i)
 
 -- all runs of a contest
-pub runs_end : (p : Pattern) (c n : ℕ) (runs : List Run) → c < length p.contests → n ≡ size p c → runs ≡ runs_of p (first_target p.contests c + n) → runs ≡ runs_of p (first_target p.contests (c + 1))
+pub runs_end : (p : Pattern) (c n : ℕ) (runs : List Run) → c < length p.contests → n ≡ size p c
+    → runs ≡ runs_of p (first_target p.contests c + n)
+    → runs ≡ runs_of p (first_target p.contests (c + 1))
 runs_end p c n runs h e is =
     let end : first_target p.contests c + n ≡ first_target p.contests (c + 1) = omega (arith, e, first_next p.contests c h) in
     is ∙ ap (runs_of p) end
 
 -- the run of target t has no more marks than there are working ballots
-pub few_in_run : (p : Pattern) (t : ℕ) → Fits p → t < target_count p.contests → (run_of p t).marks ≤ p.working
+pub few_in_run : (p : Pattern) (t : ℕ) → Fits p → t < target_count p.contests
+    → (run_of p t).marks ≤ p.working
 few_in_run p t fits h =
     let c = contest_of p.contests t in
     let of = is_of p.contests t h in

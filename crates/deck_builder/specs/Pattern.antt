@@ -69,8 +69,7 @@ abbrev pub spare : Pattern → ℕ → ℕ
 spare p c = votes p c - least_sum p c
 
 -- how far each count can be raised: the last to the number of working ballots, each other to one
--- less
--- than the next
+-- less than the next
 abbrev pub gap : Pattern → ℕ → ℕ
 gap p c = p.working + 1 - first_count p c - size p c
 
@@ -90,9 +89,8 @@ raise p c after = if is_raised p.mode after then min (gap p c) (spare p c - afte
 abbrev pub mark_total : Pattern → (c i : ℕ) → ℕ
 mark_total p c i = first_count p c + i + raise p c (size p c - 1 - i)
 
--- marks are laid on places, going round: place q is on working ballot q % working. Those of
--- contest c
--- begin at place (step + 1) * c, and those of target i after those of the targets before
+-- marks are laid on places, going round: place q is on working ballot q % working. Those of contest
+-- c begin at place (step + 1) * c, and those of target i after those of the targets before
 abbrev pub place : Pattern → (c i : ℕ) → ℕ
 place p c i = (p.step + 1) * c + sum_by (mark_total p c) (range_with_len 0 i)
 

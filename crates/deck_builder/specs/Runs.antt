@@ -20,7 +20,8 @@ marking_of p c = record {
 -- by how much a count is raised after which so many of its contest come
 abbrev pub raise_by : Marking → (after : ℕ) → ℕ
 raise_by marking after =
-    if is_raised marking.mode after then min marking.gap (marking.spare - after * marking.gap) else 0
+    if is_raised marking.mode after then min marking.gap (marking.spare - after * marking.gap)
+    else 0
 
 -- how often target i of the contest is marked
 abbrev pub marks_of : Marking → ℕ → ℕ

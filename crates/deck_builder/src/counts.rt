@@ -94,8 +94,8 @@ fn gap(shape: &Shape, rules: &Rules, k: u16, turn: u32, c: u16) -> u16
         .saturating_sub(shape.contest(c).targets)
 }
 
-/// How often the targets of a contest are marked: the count of the first before any is raised, how far
-/// each can be raised, and how many votes are left.
+/// How often the targets of a contest are marked: the count of the first before any is raised, how
+/// far each can be raised, and how many votes are left.
 #[derive(Clone, Copy, Debug)]
 pub struct Marking {
     pub mode: Mode,

@@ -1,8 +1,8 @@
 ghost use Rattle.std.specs.Prelude.{◌≡◌, ◌<◌, ◌≤◌};
 ghost use Rattle.deck_builder.specs.Pattern.{is_laid};
 
-/// Whether one of the marks that are laid from place `first` on, one on each, going round, is on ballot
-/// `b`.
+/// Whether one of the marks that are laid from place `first` on, one on each, going round, is on
+/// ballot `b`.
 pub fn is_laid(ballots: u16, first: u32, marks: u16, b: u16) -> bool
     requires within { b < ballots }
     requires few { marks ≤ ballots }

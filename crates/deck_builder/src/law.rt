@@ -4,8 +4,8 @@ ghost use Rattle.lat_base.specs.Rules.{Obeys};
 ghost use Rattle.lat_base.specs.Tally.{is_overvoted};
 ghost use Rattle.deck_builder.specs.Pattern.{Pattern, is_laid, working_ballot, pattern_ballots, Fits};
 
-/// A law: marks that are laid one after the other, going round, are on different ballots where there are
-/// no more of them than ballots. The call does nothing.
+/// A law: marks that are laid one after the other, going round, are on different ballots where
+/// there are no more of them than ballots. The call does nothing.
 pub fn marks_are_spread()
     ensures { (ballots first marks : ℕ) → marks ≤ ballots →
         count_by (is_laid ballots first marks) (range_with_len 0 ballots) ≡ marks }

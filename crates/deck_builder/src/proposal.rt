@@ -77,13 +77,13 @@ fn lay(alloc: Global, shape: &Shape, rules: &Rules, k: u16, turn: u32) -> Result
     Ok(deck)
 }
 
-/// The deck of pattern number `turn` with `k` ballots, or None where there is no pattern of that number
-/// (there are 32) or it doesn't fit `k` ballots. The deck obeys the rules. The only error is want of
-/// memory.
+/// The deck of pattern number `turn` with `k` ballots, or None where there is no pattern of that
+/// number (there are 32) or it doesn't fit `k` ballots. The deck obeys the rules. The only error is
+/// want of memory.
 ///
-/// `over` ballots are marked everywhere and come first, `blank` ones nowhere and come last. On those
-/// between, the targets of a contest are marked as often as the mode says, one after the other, going
-/// round.
+/// `over` ballots are marked everywhere and come first, `blank` ones nowhere and come last. On
+/// those between, the targets of a contest are marked as often as the mode says, one after the
+/// other, going round.
 pub fn propose(
     alloc: Global,
     shape: &Shape,

@@ -3,8 +3,7 @@ use lat_base::{Contest, Rules, Shape};
 use std::test::Fail;
 
 // Twenty contests of four targets and one vote: in pattern 24 all counts differ, so that the last
-// contest
-// has 77 to 80 marks, 314 in all.
+// contest has 77 to 80 marks, 314 in all.
 #[test]
 fn counts_apart_need_room(rt: HostRuntime) -> Result<(), Fail> {
     let contest = Contest {
@@ -20,9 +19,8 @@ fn counts_apart_need_room(rt: HostRuntime) -> Result<(), Fail> {
     Ok(())
 }
 
-// Where no ballot is left between those that are asked for, there is a deck only if no target
-// needs a
-// vote.
+// Where no ballot is left between those that are asked for, there is a deck only if no target needs
+// a vote.
 #[test]
 fn no_working_ballot(rt: HostRuntime) -> Result<(), Fail> {
     let contest = Contest {

@@ -26,33 +26,42 @@ unread n u s = elim (cases_lt u (length s)) [
 ]
 
 -- so it votes for nothing
-no_vote : (contests : List Contest) (n u : ℕ) (s : List ℕ) → votes_for contests (reading (replicate n false) s) u ≡ false
+no_vote : (contests : List Contest) (n u : ℕ) (s : List ℕ)
+    → votes_for contests (reading (replicate n false) s) u ≡ false
 no_vote contests n u s = λ i. unread n u s i && not (is_overvoted contests (reading (replicate n false) s) (contest_of contests u))
 
-not_counted : {X : Type 0} (p : X → Bool) (x : X) (xs : List X) → p x ≡ false → count_by p (x ∷ xs) ≡ count_by p xs
+not_counted : {X : Type 0} (p : X → Bool) (x : X) (xs : List X) → p x ≡ false
+    → count_by p (x ∷ xs) ≡ count_by p xs
 not_counted p x xs fails =
     let none : ◌≡◌ {A = ℕ} (cond (p x) 1 0) 0 = ap (λ (b : Bool). cond b 1 0) fails in
     omega (arith, none, sum_by-cons (λ y. cond (p y) 1 0) x xs)
 
-counted_more : {X : Type 0} (p : X → Bool) (x : X) (xs : List X) → count_by p xs ≤ count_by p (x ∷ xs)
+counted_more : {X : Type 0} (p : X → Bool) (x : X) (xs : List X)
+    → count_by p xs ≤ count_by p (x ∷ xs)
 counted_more p x xs = omega (arith, sum_by-cons (λ y. cond (p y) 1 0) x xs)
 
 -- the totals are as before
-same_total : (contests : List Contest) (deck : List (List Bool)) (n u : ℕ) (s : List ℕ) → total contests (replicate n false ∷ deck) s u ≡ total contests deck s u
+same_total : (contests : List Contest) (deck : List (List Bool)) (n u : ℕ) (s : List ℕ)
+    → total contests (replicate n false ∷ deck) s u ≡ total contests deck s u
 same_total contests deck n u s = not_counted (λ ballot. votes_for contests (reading ballot s) u) (replicate n false) deck (no_vote contests n u s)
 
-same_report : (contests : List Contest) (deck : List (List Bool)) (n : ℕ) (s : List ℕ) → report contests (replicate n false ∷ deck) s ≡ report contests deck s
+same_report : (contests : List Contest) (deck : List (List Bool)) (n : ℕ) (s : List ℕ)
+    → report contests (replicate n false ∷ deck) s ≡ report contests deck s
 same_report contests deck n s = λ i. map (λ u. same_total contests deck n u s i) (range_with_len 0 (target_count contests))
 
-same_own : (contests : List Contest) (deck : List (List Bool)) (n u : ℕ) → own_total contests (replicate n false ∷ deck) u ≡ own_total contests deck u
+same_own : (contests : List Contest) (deck : List (List Bool)) (n u : ℕ)
+    → own_total contests (replicate n false ∷ deck) u ≡ own_total contests deck u
 same_own contests deck n u = same_total contests deck n u (identity (target_count contests))
 
-fits_more : (n : ℕ) (ballot : List Bool) (deck : List (List Bool)) → length ballot ≡ n → Fits n deck → Fits n (ballot ∷ deck)
+fits_more : (n : ℕ) (ballot : List Bool) (deck : List (List Bool)) → length ballot ≡ n → Fits n deck
+    → Fits n (ballot ∷ deck)
 fits_more n ballot deck long fits zero d h = long
 fits_more n ballot deck long fits (suc j) d h = fits j d (omega (arith, h))
 
 -- one blank ballot more
-pub blank_good : (contests : List Contest) (rules : RuleSet) (deck : List (List Bool)) → IsGood contests rules deck → IsGood contests rules (replicate (target_count contests) false ∷ deck)
+pub blank_good : (contests : List Contest) (rules : RuleSet) (deck : List (List Bool))
+    → IsGood contests rules deck → IsGood contests rules
+    (replicate (target_count contests) false ∷ deck)
 blank_good contests rules deck good =
     let n = target_count contests in
     record {
@@ -67,8 +76,10 @@ blank_good contests rules deck good =
     }
 
 -- and several
-pub padded_good : (contests : List Contest) (rules : RuleSet) (more : ℕ) (deck : List (List Bool)) → IsGood contests rules deck
-    → (padded : List (List Bool)) × IsGood contests rules padded × (length padded ≡ more + length deck)
+pub padded_good : (contests : List Contest) (rules : RuleSet) (more : ℕ) (deck : List (List Bool))
+    → IsGood contests rules deck
+    → (padded : List (List Bool)) × IsGood contests rules padded
+    × (length padded ≡ more + length deck)
 padded_good contests rules zero deck good = (deck, good, omega arith)
 padded_good contests rules (suc more) deck good =
     let rest = padded_good contests rules more deck good in

@@ -9,11 +9,14 @@ use Rattle.deck_state.specs.Shown.{shown}
 use Rattle.deck_space.specs.Numbers.{number, numbers, marks_as_numbers}
 use Rattle.deck_space.specs.Steps.{Solves}
 
-row_value : (row : List Mark) → map (λ mark. number (is_marked mark)) row ≡ map number (map is_marked row)
+row_value : (row : List Mark) → map (λ mark. number (is_marked mark)) row
+    ≡ map number (map is_marked row)
 row_value [] = refl
 row_value (mark ∷ row) = ap (λ (rest : List ℕ). number (is_marked mark) ∷ rest) (row_value row)
 
-rows_value : (rows : List (List Mark)) → flat_map (λ row. map (λ mark. number (is_marked mark)) row) rows ≡ numbers (map (λ row. map is_marked row) rows)
+rows_value : (rows : List (List Mark))
+    → flat_map (λ row. map (λ mark. number (is_marked mark)) row) rows
+    ≡ numbers (map (λ row. map is_marked row) rows)
 rows_value [] = refl
 rows_value (row ∷ rows) = λ i. row_value row i ++ rows_value rows i
 

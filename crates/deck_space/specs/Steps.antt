@@ -15,7 +15,8 @@ kid_count allowed = if allowed then Some 2 else None
 
 -- a reason closes the partial decks that it refutes; an allowed label has two kids
 abbrev pub deck_steps : Steps PartialDeck Label Reason
-deck_steps = record { closes = refutes; arity = λ p label. kid_count (is_allowed p label); kid = kid_of }
+deck_steps =
+    record { closes = refutes; arity = λ p label. kid_count (is_allowed p label); kid = kid_of }
 
 -- the numbers of a good canonical deck that the partial deck can become
 abbrev pub Solves : PartialDeck → List ℕ → Type 0

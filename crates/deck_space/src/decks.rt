@@ -5,8 +5,8 @@ use close_rules::{Label, Reason, refutes};
 use deck_state::Partial;
 use tree_core::Space;
 
-/// The space of partial decks. A solution of one is a good canonical deck that it can become, as the
-/// list of its marks ballot by ballot, 1 for marked and 0 for unmarked. No call takes memory.
+/// The space of partial decks. A solution of one is a good canonical deck that it can become, as
+/// the list of its marks ballot by ballot, 1 for marked and 0 for unmarked. No call takes memory.
 #[derive(Debug, Drop)]
 pub struct Decks;
 

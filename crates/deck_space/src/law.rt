@@ -13,10 +13,11 @@ ghost use Rattle.tree_core.specs.Rose.{Rose};
 ghost use Rattle.deck_space.specs.Numbers.{marks_as_numbers};
 ghost use Rattle.deck_space.specs.Steps.{deck_steps, Solves};
 
-/// A law: where a tree checks at the partial deck of `k` ballots of which nothing is decided, no deck
-/// of `k` ballots is good, canonical or not, and none of fewer. The call does nothing.
+/// A law: where a tree checks at the partial deck of `k` ballots of which nothing is decided, no
+/// deck of `k` ballots is good, canonical or not, and none of fewer. The call does nothing.
 pub fn checked_tree_leaves_no_good_deck()
-    ensures of_size { (contests : List Contest) (rules : RuleSet) (k : ℕ) (tree : Rose Label Reason) → IsShape contests → k ≤ 1024 →
+    ensures of_size { (contests : List Contest) (rules : RuleSet) (k : ℕ) (tree : Rose Label Reason)
+        → IsShape contests → k ≤ 1024 →
         Checks deck_steps (empty contests rules k) tree →
         (deck : List (List Bool)) → IsGood contests rules deck → length deck ≡ k → ⊥ }
     ensures below { (contests : List Contest) (rules : RuleSet) (k : ℕ) (tree : Rose Label Reason) →

@@ -18,11 +18,13 @@ use Rattle.deck_state.proofs.KeptVotes.{range_other}
 use Rattle.deck_state.proofs.Sheets.{count_alike, outside_of}
 
 -- no limit is above 64
-small_limit : (contests : List Contest) (c : ℕ) → IsShape contests → c < length contests → (contest_at contests c).limit ≤ 64
+small_limit : (contests : List Contest) (c : ℕ) → IsShape contests → c < length contests
+    → (contest_at contests c).limit ≤ 64
 small_limit contests c shape h = (shape.limits c no_contest h).1
 
 -- none is raised yet
-pub raised_none : (limit first : ℕ) (before after : ContestCount) (levels : List ℕ) → AreRaised limit first 0 before after levels levels
+pub raised_none : (limit first : ℕ) (before after : ContestCount) (levels : List ℕ)
+    → AreRaised limit first 0 before after levels levels
 raised_none limit first before after levels = record {
   long = refl;
   here = λ v lt. absurd (omega (arith, lt));
@@ -30,8 +32,10 @@ raised_none limit first before after levels = record {
 }
 
 -- one more is
-pub raised_more : (limit first v x : ℕ) (before after : ContestCount) (old new : List ℕ) → AreRaised limit first v before after old new → first + v < length new
-    → x + vote (is_at limit v before) ≡ get_or new (first + v) 0 + vote (is_at limit v after) → AreRaised limit first (v + 1) before after old (set new (first + v) x)
+pub raised_more : (limit first v x : ℕ) (before after : ContestCount) (old new : List ℕ)
+    → AreRaised limit first v before after old new → first + v < length new
+    → x + vote (is_at limit v before) ≡ get_or new (first + v) 0 + vote (is_at limit v after)
+    → AreRaised limit first (v + 1) before after old (set new (first + v) x)
 raised_more limit first v x before after old new so_far within moved =
     let put = get_or-set_same new (first + v) x 0 within in
     let was = so_far.other (first + v) (inr (omega arith)) in
@@ -52,12 +56,17 @@ raised_more limit first v x before after old new so_far within moved =
     below w v lt apart = grind (arith, lt, apart)
 
 -- what is there before it is raised
-pub not_raised : (limit first v : ℕ) (before after : ContestCount) (old new : List ℕ) → AreRaised limit first v before after old new → get_or new (first + v) 0 ≡ get_or old (first + v) 0
+pub not_raised : (limit first v : ℕ) (before after : ContestCount) (old new : List ℕ)
+    → AreRaised limit first v before after old new
+    → get_or new (first + v) 0 ≡ get_or old (first + v) 0
 not_raised limit first v before after old new so_far = so_far.other (first + v) (inr (omega arith))
 
 -- each ballot belongs to its levels
-pub has_levels : (contests : List Contest) (marks : List (List Mark)) (levels : List ℕ) (j c : ℕ) (before : ContestCount) → AreLevels contests marks levels → j < length marks → c < length contests
-    → before ≡ count_of contests (get_or marks j []) c → HasLevels (contest_at contests c).limit (c * 65) before levels
+pub has_levels : (contests : List Contest) (marks : List (List Mark)) (levels : List ℕ) (j c : ℕ)
+    (before : ContestCount) → AreLevels contests marks levels → j < length marks
+    → c < length contests
+    → before ≡ count_of contests (get_or marks j []) c
+    → HasLevels (contest_at contests c).limit (c * 65) before levels
 has_levels contests marks levels j c before are h lt is =
     let limit = (contest_at contests c).limit in
     record {
@@ -67,15 +76,21 @@ has_levels contests marks levels j c before are h lt is =
     }
 
 -- the counts of another contest stay
-same_count : (contests : List Contest) (row : List Mark) (t c : ℕ) (mark : Mark) → t < target_count contests → c < length contests → c ≢ contest_of contests t → count_of contests (set row t mark) c ≡ count_of contests row c
+same_count : (contests : List Contest) (row : List Mark) (t c : ℕ) (mark : Mark)
+    → t < target_count contests → c < length contests → c ≢ contest_of contests t
+    → count_of contests (set row t mark) c ≡ count_of contests row c
 same_count contests row t c mark lt h apart =
     let marks = range_other row (first_target contests c) (first_target contests (c + 1)) t mark (outside_of contests t c lt h apart) in
     λ i. record { marked = count_by is_marked (marks i); possible = count_by may_be_marked (marks i) }
 
 -- the levels once a mark is put
-pub levels_put : (contests : List Contest) (marks : List (List Mark)) (old new : List ℕ) (j t c : ℕ) (mark : Mark) (before after : ContestCount) → AreLevels contests marks old → j < length marks → t < target_count contests
-    → c ≡ contest_of contests t → before ≡ count_of contests (get_or marks j []) c → after ≡ count_of contests (set (get_or marks j []) t mark) c
-    → AreRaised (contest_at contests c).limit (c * 65) ((contest_at contests c).limit + 1) before after old new → AreLevels contests (set marks j (set (get_or marks j []) t mark)) new
+pub levels_put : (contests : List Contest) (marks : List (List Mark)) (old new : List ℕ) (j t c : ℕ)
+    (mark : Mark) (before after : ContestCount) → AreLevels contests marks old → j < length marks
+    → t < target_count contests
+    → c ≡ contest_of contests t → before ≡ count_of contests (get_or marks j []) c
+    → after ≡ count_of contests (set (get_or marks j []) t mark) c
+    → AreRaised (contest_at contests c).limit (c * 65) ((contest_at contests c).limit + 1) before
+    after old new → AreLevels contests (set marks j (set (get_or marks j []) t mark)) new
 levels_put contests marks old new j t c mark before after are h lt of is will raised =
     let row = get_or marks j [] in
     let put = set row t mark in
@@ -105,7 +120,8 @@ levels_put contests marks old new j t c mark before after are h lt of is will ra
           ];
     }
   where
-    outside : (c d v limit : ℕ) → v ≤ 64 → limit ≤ 64 → d ≢ c → (place_of d v < c * 65) ⊎ (c * 65 + (limit + 1) ≤ place_of d v)
+    outside : (c d v limit : ℕ) → v ≤ 64 → limit ≤ 64 → d ≢ c
+        → (place_of d v < c * 65) ⊎ (c * 65 + (limit + 1) ≤ place_of d v)
     outside c d v limit few less apart = elim (cases_lt d c) [
       | inl before ↦ inl (omega (arith, few, before))
       | inr past ↦ inr (omega (arith, less, above c d past apart))
@@ -115,8 +131,10 @@ levels_put contests marks old new j t c mark before after are h lt of is will ra
         above c d le other = grind (arith, le, other)
 
 -- the levels of blank ballots
-pub levels_blank : (contests : List Contest) (k : ℕ) (levels : List ℕ) (blank : List Mark) → IsShape contests → k ≤ 1024
-    → levels ≡ map (level_alike contests blank k) (range_with_len 0 (length contests * 65)) → AreLevels contests (replicate k blank) levels
+pub levels_blank : (contests : List Contest) (k : ℕ) (levels : List ℕ) (blank : List Mark)
+    → IsShape contests → k ≤ 1024
+    → levels ≡ map (level_alike contests blank k) (range_with_len 0 (length contests * 65))
+    → AreLevels contests (replicate k blank) levels
 levels_blank contests k levels blank shape few are =
     let level = level_alike contests blank k in
     record {

@@ -12,8 +12,7 @@ abbrev pub most_of : (limit : ℕ) → ContestCount → ℕ
 most_of limit count = if nat_lt limit count.marked then 0 else min limit count.possible
 
 -- whether a ballot with these counts belongs to level v: below the limit, where it can give more
--- than v
--- votes; at the limit, where it can be overvoted
+-- than v votes; at the limit, where it can be overvoted
 abbrev pub is_at : (limit v : ℕ) → ContestCount → Bool
 is_at limit v count =
     if nat_lt v limit then nat_lt v (most_of limit count) else nat_lt limit count.possible

@@ -54,7 +54,8 @@ pub fn levels_alike(
 ) -> Result<Vec<u16>, AllocError>
     requires { length row.now ≡ target_count shape.now }
     ensures { let level = level_alike shape.now row.now k in
-        IfOk result (λ levels. levels.items ≡ map level (range_with_len 0 (length shape.now * 65))) }
+        IfOk result (λ levels. levels.items
+        ≡ map level (range_with_len 0 (length shape.now * 65))) }
 {
     let places = shape.contests() * LEVELS;
     let mut levels = Vec::with_capacity(alloc, places as usize)?;

@@ -33,9 +33,24 @@ impl Model for Partial {
 
     ghost Value = { PartialDeck };
 
-    ghost view = { λ a. record { contests = a.sheet.contests; rules = a.rules; ballots = a.ballots; marks = a.sheet.marks; bounds = a.bounds.items; steps = a.steps.items } };
+    ghost view = { λ a. record {
+      contests = a.sheet.contests;
+      rules = a.rules;
+      ballots = a.ballots;
+      marks = a.sheet.marks;
+      bounds = a.bounds.items;
+      steps = a.steps.items;
+    } };
 
-    ghost invariant = { λ a. IsPartial (record { contests = a.sheet.contests; rules = a.rules; ballots = a.ballots; marks = a.sheet.marks; bounds = a.bounds.items; steps = a.steps.items })
+    ghost invariant = { λ a. IsPartial
+        (record {
+          contests = a.sheet.contests;
+          rules = a.rules;
+          ballots = a.ballots;
+          marks = a.sheet.marks;
+          bounds = a.bounds.items;
+          steps = a.steps.items;
+        })
         × (2 * (a.ballots * target_count a.sheet.contests) ≤ vec_capacity a.steps) };
 }
 

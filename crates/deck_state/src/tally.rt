@@ -11,8 +11,8 @@ use lat_base::Shape;
 use std::alloc::{AllocError, Global};
 use std::marker::Model;
 
-/// A sheet of marks, for each contest with the numbers of ballots that can give more than so many votes
-/// in it, and of those that can be overvoted in it.
+/// A sheet of marks, for each contest with the numbers of ballots that can give more than so many
+/// votes in it, and of those that can be overvoted in it.
 #[derive(Debug, Drop)]
 pub struct Tally {
     sheet: Sheet,

@@ -17,7 +17,8 @@ names_long n = length-map n.targets (λ (id : List ℕ). record { contest = n.id
 
 -- as many names stand before the next contest as before this one, and its own
 pub names_more : (names : List ContestNames) (c : ℕ) → c < length names
-    → length (target_names (take (c + 1) names)) ≡ length (target_names (take c names)) + length (names_at names c).targets
+    → length (target_names (take (c + 1) names))
+    ≡ length (target_names (take c names)) + length (names_at names c).targets
 names_more names c within =
     length-flat_map names_in (take (c + 1) names)
     ∙ sum_by_more (λ (n : ContestNames). length (names_in n)) names c no_names within
@@ -25,14 +26,16 @@ names_more names c within =
 
 -- and no more than there are in all
 pub names_within : (names : List ContestNames) (c : ℕ) → c < length names
-    → length (target_names (take c names)) + length (names_at names c).targets ≤ length (target_names names)
+    → length (target_names (take c names)) + length (names_at names c).targets
+    ≤ length (target_names names)
 names_within names c within =
     let all = length-flat_map names_in names in
     let some = length-flat_map names_in (take (c + 1) names) in
     omega (arith, names_more names c within, all, some, sum_by-take-le (λ (n : ContestNames). length (names_in n)) names (c + 1))
 
 -- the same of the contest that a loop over the contests is at
-pub contest_few : (names items : List ContestNames) (n : ContestNames) (c : ℕ) → items ≡ names → c < length items → n ≡ get_or items c n
+pub contest_few : (names items : List ContestNames) (n : ContestNames) (c : ℕ) → items ≡ names
+    → c < length items → n ≡ get_or items c n
     → length (target_names (take c names)) + length n.targets ≤ length (target_names names)
 contest_few names items n c same within is =
     let low : c < length names = omega (arith, within, ap length same) in
@@ -40,13 +43,16 @@ contest_few names items n c same within is =
     omega (arith, names_within names c low, ap (λ (m : ContestNames). length m.targets) at)
 
 -- the row of target i of a contest whose targets are numbered from `first`
-pub target_line : (n : ContestNames) (number : List ℕ) (ballot : List Bool) (first i : ℕ) → i < length n.targets
-    → mark_line (names_in n) number (drop first ballot) i ≡ (if get_or ballot (first + i) false then line number n.id (get_or n.targets i []) else [])
+pub target_line : (n : ContestNames) (number : List ℕ) (ballot : List Bool) (first i : ℕ)
+    → i < length n.targets
+    → mark_line (names_in n) number (drop first ballot) i
+    ≡ (if get_or ballot (first + i) false then line number n.id (get_or n.targets i []) else [])
 target_line n number ballot first i low =
     rw (get_or-map (λ (id : List ℕ). record { contest = n.id; target = id }) n.targets i [] no_name low, get_or-drop first ballot i false) refl
 
 -- equal pieces make equal texts
-same_pieces : (f g : ℕ → List ℕ) (a b n : ℕ) → ((i : ℕ) → i < n → f (a + i) ≡ g (b + i)) → flat_map f (range_with_len a n) ≡ flat_map g (range_with_len b n)
+same_pieces : (f g : ℕ → List ℕ) (a b n : ℕ) → ((i : ℕ) → i < n → f (a + i) ≡ g (b + i))
+    → flat_map f (range_with_len a n) ≡ flat_map g (range_with_len b n)
 same_pieces f g a b zero same = refl
 same_pieces f g a b (suc n) same =
     let at : a ≡ a + 0 = omega arith in
@@ -72,9 +78,11 @@ range_join a (suc m) n =
     ∙ ap (λ (ks : List ℕ). a ∷ ks) (range_join (a + 1) m n ∙ ap (λ (k : ℕ). range_with_len (a + 1) m ++ range_with_len k n) next)
 
 -- a target's row by its number among all, and within its contest
-same_line : (names : List ContestNames) (number : List ℕ) (ballot : List Bool) (c first i : ℕ) → c < length names
+same_line : (names : List ContestNames) (number : List ℕ) (ballot : List Bool) (c first i : ℕ)
+    → c < length names
     → first ≡ length (target_names (take c names)) → i < length (names_at names c).targets
-    → mark_line (target_names names) number ballot (first + i) ≡ mark_line (names_in (names_at names c)) number (drop first ballot) i
+    → mark_line (target_names names) number ballot (first + i)
+    ≡ mark_line (names_in (names_at names c)) number (drop first ballot) i
 same_line names number ballot c first i within place low =
     let n = names_at names c in
     let name : name_at (target_names names) (first + i) ≡ name_at (names_in n) i =
@@ -83,9 +91,11 @@ same_line names number ballot c first i within place low =
     (λ k. if mark k then line number (name k).contest (name k).target else [])
 
 -- the rows of the next contest
-pub contest_more : (names : List ContestNames) (text number : List ℕ) (ballot : List Bool) (c first : ℕ) → c < length names
+pub contest_more : (names : List ContestNames) (text number : List ℕ) (ballot : List Bool)
+    (c first : ℕ) → c < length names
     → first ≡ length (target_names (take c names))
-    → text ++ flat_map (mark_line (target_names names) number ballot) (range_with_len 0 (first + length (names_at names c).targets))
+    → text ++ flat_map (mark_line (target_names names) number ballot)
+    (range_with_len 0 (first + length (names_at names c).targets))
     ≡ (text ++ flat_map (mark_line (target_names names) number ballot) (range_with_len 0 first))
     ++ flat_map (mark_line (names_in (names_at names c)) number (drop first ballot)) (range_with_len 0 (length (names_at names c).targets))
 contest_more names text number ballot c first within place =

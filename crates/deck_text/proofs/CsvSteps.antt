@@ -57,8 +57,10 @@ pub record Leaves (bytes : List ℕ) (p : Read) : Type 0 where
   pub fewer : length p.2 ≤ length bytes - 1
 
 -- what one byte does to what the rest leaves
-one_leaves : (b : Bool) (x p : Read) (more : Option Read) (c : ℕ) (rest : List ℕ) → cond b (Some x) more ≡ Some p
-    → (b ≡ true → ends_at_end x.1 ≡ false) → x.2 ≡ rest → (more ≡ Some p → Leaves rest p) → Leaves (c ∷ rest) p
+one_leaves : (b : Bool) (x p : Read) (more : Option Read) (c : ℕ) (rest : List ℕ)
+    → cond b (Some x) more ≡ Some p
+    → (b ≡ true → ends_at_end x.1 ≡ false) → x.2 ≡ rest → (more ≡ Some p → Leaves rest p)
+    → Leaves (c ∷ rest) p
 one_leaves true x p more c rest h ends e after =
     let is : x ≡ p = cc in
     record { ended = ap (λ (q : Read). ends_at_end q.1) (sym is) ∙ ends refl; fewer = omega (arith, ap length e, ap (λ (q : Read). length q.2) is) }
@@ -66,13 +68,15 @@ one_leaves false x p more c rest h ends e after =
     let l = after h in
     record { ended = l.ended; fewer = omega (arith, l.fewer) }
 
-none_leaves : (b : Bool) (x p : Read) → cond b (Some x) None ≡ Some p → x.1 ≡ st.StartRecord → x.2 ≡ [] → Leaves [] p
+none_leaves : (b : Bool) (x p : Read) → cond b (Some x) None ≡ Some p → x.1 ≡ st.StartRecord
+    → x.2 ≡ [] → Leaves [] p
 none_leaves true x p h s e =
     let is : x ≡ p = cc in
     record { ended = ap (λ (q : Read). ends_at_end q.1) (sym is) ∙ ap ends_at_end s; fewer = omega (arith, ap length e, ap (λ (q : Read). length q.2) is) }
 none_leaves false x p h s e = cc
 
-leaves : (s : State) (fields : List (List ℕ)) (field bytes : List ℕ) (p : Read) → next_record default_config s fields field bytes ≡ Some p → Leaves bytes p
+leaves : (s : State) (fields : List (List ℕ)) (field bytes : List ℕ) (p : Read)
+    → next_record default_config s fields field bytes ≡ Some p → Leaves bytes p
 unfolding next_record
 leaves s fields field [] p h = none_leaves (ends_at_end s) (fields ++ (field ∷ []), st.StartRecord, []) p h refl refl
 leaves s fields field (c ∷ rest) p h =
@@ -86,19 +90,23 @@ nothing_left true x p e h = cc
 nothing_left false x p e h = cc
 
 -- where none is begun, the bytes are not at their end
-some_left : (s : State) (bytes : List ℕ) (p : Read) → ends_at_end s ≡ false → next_record default_config s [] [] bytes ≡ Some p → 0 < length bytes
+some_left : (s : State) (bytes : List ℕ) (p : Read) → ends_at_end s ≡ false
+    → next_record default_config s [] [] bytes ≡ Some p → 0 < length bytes
 unfolding next_record
 some_left s [] p between h = absurd (nothing_left (ends_at_end s) ([] ∷ [], st.StartRecord, []) p between h)
 some_left s (c ∷ rest) p between h = omega arith
 
 one_turn : (o : Option Read) (n m : ℕ)
-    → ((p : Read) → o ≡ Some p → records_from default_config n p.1 p.2 ≡ records_from default_config m p.1 p.2)
-    → records_next (records_from default_config n) o ≡ records_next (records_from default_config m) o
+    → ((p : Read) → o ≡ Some p → records_from default_config n p.1 p.2
+    ≡ records_from default_config m p.1 p.2)
+    → records_next (records_from default_config n) o
+    ≡ records_next (records_from default_config m) o
 one_turn None n m same = refl
 one_turn (Some p) n m same = ap (λ (rows : List (List (List ℕ))). p.0 ∷ rows) (same p refl)
 
 -- enough turns give the same records as more
-turns : (n m : ℕ) (s : State) (bytes : List ℕ) → ends_at_end s ≡ false → length bytes < n → length bytes < m
+turns : (n m : ℕ) (s : State) (bytes : List ℕ) → ends_at_end s ≡ false → length bytes < n
+    → length bytes < m
     → records_from default_config n s bytes ≡ records_from default_config m s bytes
 unfolding records_from
 turns zero m s bytes between low high = absurd (omega arith)
@@ -111,7 +119,8 @@ turns (suc n) (suc m) s bytes between low high =
     turns n m p.1 p.2 l.ended (omega (arith, l.fewer, some, low)) (omega (arith, l.fewer, some, high)))
 
 -- a record that is read is the first of those left, and none is begun after it
-pub one_more : (s : State) (bytes : List ℕ) (p : Read) → ends_at_end s ≡ false → next_record default_config s [] [] bytes ≡ Some p
+pub one_more : (s : State) (bytes : List ℕ) (p : Read) → ends_at_end s ≡ false
+    → next_record default_config s [] [] bytes ≡ Some p
     → (left_of s bytes ≡ p.0 ∷ left_of p.1 p.2) × (ends_at_end p.1 ≡ false)
 unfolding records_from
 one_more s bytes p between e =
@@ -125,7 +134,8 @@ one_more s bytes p between e =
     )
 
 -- where no record is read, none is left
-pub none_left : (s : State) (bytes : List ℕ) → next_record default_config s [] [] bytes ≡ None → left_of s bytes ≡ []
+pub none_left : (s : State) (bytes : List ℕ) → next_record default_config s [] [] bytes ≡ None
+    → left_of s bytes ≡ []
 unfolding records_from
 none_left s bytes e =
     let next : length bytes + 1 ≡ suc (length bytes) = omega arith in

@@ -18,5 +18,6 @@ decimal_ids = decimal_by_steps (λ n ds. list_all is_id_byte ds ≡ true)
     ∙ and_from (list_all is_id_byte ds) (list_all is_id_byte ((48 + n % 10) ∷ [])) all (and_from (is_id_byte (48 + n % 10)) true (digit (n % 10) (omega arith)) refl))
 
 -- the same of a text that is such digits
-pub number_ids : (text : List ℕ) (n : ℕ) → text ≡ decimal n → n < 2 ^ 64 → IsTrue (list_all is_id_byte text)
+pub number_ids : (text : List ℕ) (n : ℕ) → text ≡ decimal n → n < 2 ^ 64
+    → IsTrue (list_all is_id_byte text)
 number_ids text n e small = ap (list_all is_id_byte) e ∙ decimal_ids n small

@@ -19,12 +19,14 @@ front_deck k whole is = record {
 }
 
 -- the last ballot in use
-pub front_last : (k : ℕ) (whole : Ballots) → IsDraft k whole → 0 < k → ballot_at (front_of k whole) (last_ballot (front_of k whole)) ≡ ballot_at whole (k - 1)
+pub front_last : (k : ℕ) (whole : Ballots) → IsDraft k whole → 0 < k
+    → ballot_at (front_of k whole) (last_ballot (front_of k whole)) ≡ ballot_at whole (k - 1)
 front_last k whole is some =
     ap (λ (n : ℕ). get_or (take k whole.ballots) (n - 1) []) (front_long k whole is) ∙ get_or-take k whole.ballots (k - 1) [] (omega arith)
 
 -- one ballot more in use
-pub begun : (k : ℕ) (whole : Ballots) → IsDraft k whole → k < 1024 → front_of (k + 1) whole ≡ with_blank (front_of k whole)
+pub begun : (k : ℕ) (whole : Ballots) → IsDraft k whole → k < 1024
+    → front_of (k + 1) whole ≡ with_blank (front_of k whole)
 begun k whole is low =
     let within : k < length whole.ballots = omega (arith, low, is.most) in
     ap (λ (bs : List (List Bool)). record whole { ballots = bs })
@@ -34,14 +36,16 @@ pub begun_draft : (k : ℕ) (whole : Ballots) → IsDraft k whole → k < 1024 �
 begun_draft k whole is low = record { deck = is.deck; used = omega arith; most = is.most; blank = λ j ge lt. is.blank j (omega (arith, ge)) lt }
 
 -- one mark more on the last ballot in use
-pub marked : (k : ℕ) (whole : Ballots) (t : ℕ) → IsDraft k whole → 0 < k → front_of k (with_mark whole (k - 1) t true) ≡ with_last_mark (front_of k whole) t
+pub marked : (k : ℕ) (whole : Ballots) (t : ℕ) → IsDraft k whole → 0 < k
+    → front_of k (with_mark whole (k - 1) t true) ≡ with_last_mark (front_of k whole) t
 marked k whole t is some =
     let v = set (ballot_at whole (k - 1)) t true in
     ap (λ (bs : List (List Bool)). record whole { ballots = bs })
     (take-set-lt k whole.ballots (k - 1) v (omega arith)
     ∙ (λ i. set (take k whole.ballots) (sym (front_long k whole is) i - 1) (set (sym (front_last k whole is some) i) t true)))
 
-pub marked_draft : (k : ℕ) (whole : Ballots) (t : ℕ) → IsDraft k whole → 0 < k → IsDeck (with_mark whole (k - 1) t true) → IsDraft k (with_mark whole (k - 1) t true)
+pub marked_draft : (k : ℕ) (whole : Ballots) (t : ℕ) → IsDraft k whole → 0 < k
+    → IsDeck (with_mark whole (k - 1) t true) → IsDraft k (with_mark whole (k - 1) t true)
 marked_draft k whole t is some deck =
     let v = set (ballot_at whole (k - 1)) t true in
     let long = length-set whole.ballots (k - 1) v in
@@ -53,7 +57,8 @@ marked_draft k whole t is some deck =
     }
 
 -- blank ballots of which none is in use
-pub fresh_draft : (targets most : ℕ) → most ≡ 1024 → IsDeck (blank_ballots targets most) → IsDraft 0 (blank_ballots targets most)
+pub fresh_draft : (targets most : ℕ) → most ≡ 1024 → IsDeck (blank_ballots targets most)
+    → IsDraft 0 (blank_ballots targets most)
 fresh_draft targets most e deck =
     let long = length-replicate most (replicate targets false) in
     record { deck = deck; used = omega arith; most = long ∙ e; blank = λ j ge lt. get_or-replicate most j (replicate targets false) [] (omega (arith, lt, long)) }
@@ -68,13 +73,15 @@ mixed_more a b t d la lb =
     ∙ ap (λ (front : List _). front ++ drop (t + 1) b) (sym (take_more a t d la))
 
 -- and in the end it is the other list
-pub mixed_all : {X : Type 0} (a b : List X) (t : ℕ) → length a ≤ t → length b ≤ t → take t a ++ drop t b ≡ a
+pub mixed_all : {X : Type 0} (a b : List X) (t : ℕ) → length a ≤ t → length b ≤ t
+    → take t a ++ drop t b ≡ a
 mixed_all a b t la lb = (λ i. take_all t a la i ++ drop_all t b lb i) ∙ append-nil a
 
 -- one mark more of a ballot is copied
 pub mark_copied : (deck whole now : Ballots) (j t : ℕ) (on : Bool)
     → now ≡ record deck { ballots = set deck.ballots j (take t (ballot_at whole j) ++ drop t (ballot_at deck j)) }
-    → j < length deck.ballots → t < length (ballot_at whole j) → t < length (ballot_at deck j) → on ≡ mark_at whole j t
+    → j < length deck.ballots → t < length (ballot_at whole j) → t < length (ballot_at deck j)
+    → on ≡ mark_at whole j t
     → with_mark now j t on ≡ record deck { ballots = set deck.ballots j (take (t + 1) (ballot_at whole j) ++ drop (t + 1) (ballot_at deck j)) }
 mark_copied deck whole now j t on e within from to is =
     let row = take t (ballot_at whole j) ++ drop t (ballot_at deck j) in

@@ -24,7 +24,8 @@ no_end false = refl
 
 -- a record of three fields is compared field by field
 pub same_fields : (fields : List (List ℕ)) (a b c : List ℕ)
-    → ((length fields == 3) && bytes_eq (get_or fields 0 []) a && bytes_eq (get_or fields 1 []) b && bytes_eq (get_or fields 2 []) c) ≡ pointwise bytes_eq fields (a ∷ b ∷ c ∷ [])
+    → ((length fields == 3) && bytes_eq (get_or fields 0 []) a && bytes_eq (get_or fields 1 []) b
+    && bytes_eq (get_or fields 2 []) c) ≡ pointwise bytes_eq fields (a ∷ b ∷ c ∷ [])
 same_fields [] a b c = refl
 same_fields (x ∷ []) a b c = no_end (bytes_eq x a)
 same_fields (x ∷ y ∷ []) a b c = rw (sym (no_end (bytes_eq y b))) (no_end (bytes_eq x a))
@@ -34,7 +35,8 @@ same_fields (x ∷ y ∷ z ∷ w ∷ rest) a b c =
     rw (long, sym (no_end (bytes_eq z c)), sym (no_end (bytes_eq y b))) (no_end (bytes_eq x a))
 
 -- a record that is as long as three fields has three
-pub three_long : (fields : List (List ℕ)) (a b c : List ℕ) → pointwise bytes_eq fields (a ∷ b ∷ c ∷ []) ≡ true → length fields ≡ 3
+pub three_long : (fields : List (List ℕ)) (a b c : List ℕ)
+    → pointwise bytes_eq fields (a ∷ b ∷ c ∷ []) ≡ true → length fields ≡ 3
 three_long [] a b c h = cc
 three_long (x ∷ []) a b c h = absurd (both_ways _ (sym (no_end (bytes_eq x a))) h)
 three_long (x ∷ y ∷ []) a b c h = absurd (both_ways _ (rw (sym (no_end (bytes_eq y b))) (sym (no_end (bytes_eq x a)))) h)

@@ -11,11 +11,13 @@ use Rattle.lat_base.specs.Shape.{contest_at, first_target, target_count, no_cont
 use Rattle.deck_text.specs.TargetNames.{names_in, target_names, name_at, no_name}
 
 -- the names of the contests after the first fit these contests
-fit_rest : (n : ContestNames) (names : List ContestNames) (k : Contest) (contests : List Contest) → NamesFit (n ∷ names) (k ∷ contests) → NamesFit names contests
+fit_rest : (n : ContestNames) (names : List ContestNames) (k : Contest) (contests : List Contest)
+    → NamesFit (n ∷ names) (k ∷ contests) → NamesFit names contests
 fit_rest n names k contests fit = record { count = omega (arith, fit.count); targets = λ c lt. fit.targets (suc c) (omega (arith, lt)) }
 
 -- as many names stand before those of contest c as targets
-names_before : (names : List ContestNames) (contests : List Contest) (c : ℕ) → NamesFit names contests
+names_before : (names : List ContestNames) (contests : List Contest) (c : ℕ)
+    → NamesFit names contests
     → sum_by (λ x. length (names_in x)) (take c names) ≡ first_target contests c
 names_before names contests zero fit = refl
 names_before [] [] (suc c) fit = refl
@@ -29,7 +31,8 @@ names_before (n ∷ names) (k ∷ contests) (suc c) fit =
     ∙ sym (sum_by-cons (λ (x : Contest). x.targets) k (take c contests))
 
 -- as many names as targets in all
-pub names_count : (names : List ContestNames) (contests : List Contest) → NamesFit names contests → length (target_names names) ≡ target_count contests
+pub names_count : (names : List ContestNames) (contests : List Contest) → NamesFit names contests
+    → length (target_names names) ≡ target_count contests
 names_count names contests fit =
     length-flat_map names_in names
     ∙ ap (λ (ns : List ContestNames). sum_by (λ x. length (names_in x)) ns) (sym (take_all (length contests) names (omega (arith, fit.count))))
@@ -37,7 +40,8 @@ names_count names contests fit =
     ∙ ap target_count (take_all (length contests) contests (omega arith))
 
 -- target i of contest c has the name number t, where so many stand before it
-name_is : (names : List ContestNames) (contests : List Contest) (t c i : ℕ) → NamesFit names contests → c < length contests
+name_is : (names : List ContestNames) (contests : List Contest) (t c i : ℕ)
+    → NamesFit names contests → c < length contests
     → t ≡ first_target contests c + i → i < (contest_at contests c).targets
     → name_at (target_names names) t ≡ record { contest = (names_at names c).id; target = get_or (names_at names c).targets i [] }
 name_is names contests t c i fit within place low =
@@ -48,8 +52,10 @@ name_is names contests t c i fit within place low =
     ∙ get_or-map (λ (id : List ℕ). record { contest = (names_at names c).id; target = id }) (names_at names c).targets i [] no_name (omega (arith, here, low))
 
 -- the name of target t, which is of contest c
-pub name_of : (names : List ContestNames) (contests : List Contest) (t c first : ℕ) → NamesFit names contests → c < length contests
-    → first ≡ first_target contests c → first_target contests c ≤ t → t < first_target contests (c + 1)
+pub name_of : (names : List ContestNames) (contests : List Contest) (t c first : ℕ)
+    → NamesFit names contests → c < length contests
+    → first ≡ first_target contests c → first_target contests c ≤ t
+    → t < first_target contests (c + 1)
     → name_at (target_names names) t ≡ record { contest = (names_at names c).id; target = get_or (names_at names c).targets (t - first) [] }
 name_of names contests t c first fit within start low high =
     let next = sum_by_more (λ (x : Contest). x.targets) contests c no_contest within in

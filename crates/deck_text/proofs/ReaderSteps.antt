@@ -27,7 +27,8 @@ pub record ReadOne {R : Type 0} (rem : R → Option (List ℕ)) (a b : Reader R)
   pub ended : ends_at_end b.state ≡ false
   pub source : IsSome (source_of rem b)
 
-pub read_one : {R : Type 0} (rem : R → Option (List ℕ)) (a b : Reader R) (fields : List (List ℕ)) → a.config ≡ default_config → IsSome (source_of rem a)
+pub read_one : {R : Type 0} (rem : R → Option (List ℕ)) (a b : Reader R) (fields : List (List ℕ))
+    → a.config ≡ default_config → IsSome (source_of rem a)
     → ends_at_end a.state ≡ false → ReadRecord rem a b true fields → ReadOne rem a b fields
 unfolding Reached
 read_one rem a b fields config some between r =
@@ -42,15 +43,18 @@ read_one rem a b fields config some between r =
     }
 
 -- a reader that finds no record has none left
-pub read_end : {R : Type 0} (rem : R → Option (List ℕ)) (a b : Reader R) (fields : List (List ℕ)) → a.config ≡ default_config → IsSome (source_of rem a)
+pub read_end : {R : Type 0} (rem : R → Option (List ℕ)) (a b : Reader R) (fields : List (List ℕ))
+    → a.config ≡ default_config → IsSome (source_of rem a)
     → ReadRecord rem a b false fields → reader_left rem a ≡ []
 read_end rem a b fields config some r = none_left a.state _ (rows-end rem a b fields default_config _ config (there _ some) r)
 
-next_is : (o : Option Read) (f : List (List ℕ)) (s : State) (z : List ℕ) → NextIs o true f s z → (p : Read) × (o ≡ Some p) × (f ≡ p.0)
+next_is : (o : Option Read) (f : List (List ℕ)) (s : State) (z : List ℕ) → NextIs o true f s z
+    → (p : Read) × (o ≡ Some p) × (f ≡ p.0)
 next_is None f s z n = cc n
 next_is (Some p) f s z n = (p, refl, n.1)
 
-took_next : (s : State) (y : List ℕ) (k : Option (List ℕ)) (f : List (List ℕ)) (t : State) → ends_at_end s ≡ false → ReadsNext default_config s (Some y) k true f t
+took_next : (s : State) (y : List ℕ) (k : Option (List ℕ)) (f : List (List ℕ)) (t : State)
+    → ends_at_end s ≡ false → ReadsNext default_config s (Some y) k true f t
     → (rest : List (List (List ℕ))) × (left_of s y ≡ f ∷ rest)
 took_next s y None f t between r = absurd r
 took_next s y (Some z) f t between r =
@@ -59,14 +63,20 @@ took_next s y (Some z) f t between r =
     (left_of p.1 p.2, m.0 ∙ ap (λ (g : List (List ℕ)). g ∷ left_of p.1 p.2) (sym same))
 
 -- a record that was taken was the first of those left
-pub took_one : {R : Type 0} (rem : R → Option (List ℕ)) (a b : Reader R) (fields : List (List ℕ)) → a.config ≡ default_config → IsSome (source_of rem a)
-    → ends_at_end a.state ≡ false → TookRecord rem a b fields → (rest : List (List (List ℕ))) × (reader_left rem a ≡ fields ∷ rest)
+pub took_one : {R : Type 0} (rem : R → Option (List ℕ)) (a b : Reader R) (fields : List (List ℕ))
+    → a.config ≡ default_config → IsSome (source_of rem a)
+    → ends_at_end a.state ≡ false → TookRecord rem a b fields
+    → (rest : List (List (List ℕ))) × (reader_left rem a ≡ fields ∷ rest)
 took_one rem a b fields config some between r = took_next a.state _ _ fields b.state between (rw (config, there _ some) at r)
 
 -- a read that is refused for the record's length, where three fields were expected
-pub other_length : {R : Type 0} (rem : R → Option (List ℕ)) (a b : Reader R) (why : ErrorKind) (pos : Option Position) (expected len : ℕ)
-    → a.config ≡ default_config → IsSome (source_of rem a) → ends_at_end a.state ≡ false → a.expected ≡ Some 3 → why ≡ kind.UnequalLengths pos expected len
-    → ExplainsRead rem a b false why → (fields : List (List ℕ)) × (rest : List (List (List ℕ))) × (reader_left rem a ≡ fields ∷ rest) × (length fields ≢ 3)
+pub other_length : {R : Type 0} (rem : R → Option (List ℕ)) (a b : Reader R) (why : ErrorKind)
+    (pos : Option Position) (expected len : ℕ)
+    → a.config ≡ default_config → IsSome (source_of rem a) → ends_at_end a.state ≡ false
+    → a.expected ≡ Some 3 → why ≡ kind.UnequalLengths pos expected len
+    → ExplainsRead rem a b false why
+    → (fields : List (List ℕ)) × (rest : List (List (List ℕ))) × (reader_left rem a ≡ fields ∷ rest)
+    × (length fields ≢ 3)
 other_length rem a b why pos expected len config some between three is explained =
     let (strict, wanted, other, fields, took, long) = subst (λ (k : ErrorKind). ExplainsRead rem a b false k) is explained in
     let (rest, first) = took_one rem a b fields config some between took in
@@ -75,6 +85,7 @@ other_length rem a b why pos expected len config some between three is explained
     (fields, rest, first, λ e. other (sym number ∙ sym e ∙ long))
 
 -- all records of a file are those that a reader of it has left
-pub file_left : {R : Type 0} (rem : R → Option (List ℕ)) (a : Reader R) (bytes : List ℕ) → a.state ≡ st.StartRecord → source_of rem a ≡ Some (strip_bom bytes)
+pub file_left : {R : Type 0} (rem : R → Option (List ℕ)) (a : Reader R) (bytes : List ℕ)
+    → a.state ≡ st.StartRecord → source_of rem a ≡ Some (strip_bom bytes)
     → file_records bytes ≡ reader_left rem a
 file_left rem a bytes start source = λ i. left_of (sym start i) (unwrap_or (sym source i) [])

@@ -15,7 +15,8 @@ abbrev marks : List Bool → ℕ
 marks ballot = count_by (λ mark. mark) ballot
 
 -- one mark more
-mark_more : (ballot : List Bool) (t : ℕ) → t < length ballot → get_or ballot t false ≡ false → marks (set ballot t true) ≡ marks ballot + 1
+mark_more : (ballot : List Bool) (t : ℕ) → t < length ballot → get_or ballot t false ≡ false
+    → marks (set ballot t true) ≡ marks ballot + 1
 mark_more ballot t low free =
     let other : ◌≡◌ {A = ℕ} (cond (get_or ballot t false) 1 0) 0 = ap (λ (m : Bool). cond m 1 0) free in
     omega (arith, other, sum_by-set (λ (m : Bool). cond m 1 0) ballot t true false low)
@@ -35,7 +36,8 @@ blank_more deck =
     omega (arith, no_marks deck.targets, sum_by-append ballot_rows deck.ballots (blank ∷ []), sum_by-cons ballot_rows blank [])
 
 -- a mark more on the last ballot, where it has one already
-last_more : (deck : Ballots) (t : ℕ) → 0 < length deck.ballots → t < length (ballot_at deck (last_ballot deck)) → mark_at deck (last_ballot deck) t ≡ false
+last_more : (deck : Ballots) (t : ℕ) → 0 < length deck.ballots
+    → t < length (ballot_at deck (last_ballot deck)) → mark_at deck (last_ballot deck) t ≡ false
     → deck_rows (with_last_mark deck t).ballots + max 1 (marks (ballot_at deck (last_ballot deck)))
     ≡ deck_rows deck.ballots + (marks (ballot_at deck (last_ballot deck)) + 1)
 last_more deck t some low free =
@@ -45,13 +47,15 @@ last_more deck t some low free =
       sum_by-set ballot_rows deck.ballots (last_ballot deck) (set (ballot_at deck (last_ballot deck)) t true) [] (omega arith),
     )
 
-last_blank : (deck : Ballots) → ballot_at (with_blank deck) (last_ballot (with_blank deck)) ≡ replicate deck.targets false
+last_blank : (deck : Ballots) → ballot_at (with_blank deck) (last_ballot (with_blank deck))
+    ≡ replicate deck.targets false
 last_blank deck =
     let blank = replicate deck.targets false in
     get_or_push deck.ballots blank [] (last_ballot (with_blank deck)) (omega (arith, length_push deck.ballots blank))
 
 -- the first row of a ballot
-ballot_more : (deck : Ballots) (m : Mark) → IsMarkOf deck.targets m → deck_rows (with_ballot deck m).ballots ≡ deck_rows deck.ballots + 1
+ballot_more : (deck : Ballots) (m : Mark) → IsMarkOf deck.targets m
+    → deck_rows (with_ballot deck m).ballots ≡ deck_rows deck.ballots + 1
 ballot_more deck mark.Blank h = blank_more deck
 ballot_more deck (mark.Target t) h =
     let e = last_blank deck in
@@ -66,7 +70,8 @@ new_is false true x new h = cc
 new_is false false x new h = (refl, cc h)
 
 -- a further row of it
-further_more : (deck : Ballots) (m : Mark) (new : Ballots) → IsDeck deck → 0 < length deck.ballots → IsMarkOf deck.targets m → with_further deck m ≡ Some new
+further_more : (deck : Ballots) (m : Mark) (new : Ballots) → IsDeck deck → 0 < length deck.ballots
+    → IsMarkOf deck.targets m → with_further deck m ≡ Some new
     → deck_rows new.ballots ≡ deck_rows deck.ballots + 1
 further_more deck mark.Blank new is some h e = cc
 further_more deck (mark.Target t) new is some h e =
@@ -77,7 +82,8 @@ further_more deck (mark.Target t) new is some h e =
     omega (arith, some_mark last marked, last_more deck t some (omega (arith, long, h)) free, ap (λ (d : Ballots). deck_rows d.ballots) same)
 
 -- a row is one row more
-pub row_more : (deck : Ballots) (number : ℕ) (m : Mark) (new : Ballots) → IsDeck deck → 0 < number → IsMarkOf deck.targets m → with_row deck number m ≡ Some new
+pub row_more : (deck : Ballots) (number : ℕ) (m : Mark) (new : Ballots) → IsDeck deck → 0 < number
+    → IsMarkOf deck.targets m → with_row deck number m ≡ Some new
     → deck_rows new.ballots ≡ deck_rows deck.ballots + 1
 row_more deck number m new is some h e = elim (cases_Bool (number == length deck.ballots)) [
   | inl same ↦
@@ -97,7 +103,8 @@ rows_few deck is =
     omega (arith, sum_by-le ballot_rows 256 deck.ballots each, is.few)
 
 -- a total is one total more
-pub total_more : (totals : List (Option ℕ)) (t n : ℕ) → t < length totals → is_some (get_or totals t None) ≡ false
+pub total_more : (totals : List (Option ℕ)) (t n : ℕ) → t < length totals
+    → is_some (get_or totals t None) ≡ false
     → total_rows (set totals t (Some n)) ≡ total_rows totals + 1
 total_more totals t n low free =
     let other : ◌≡◌ {A = ℕ} (cond (is_some (get_or totals t None)) 1 0) 0 = ap (λ (b : Bool). cond b 1 0) free in

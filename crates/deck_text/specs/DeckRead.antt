@@ -20,7 +20,8 @@ deck_fields = codes "ballot" ∷ codes "contest" ∷ codes "target" ∷ []
 
 -- a number that is that of the last ballot or one more; before the first ballot it is 1
 abbrev pub following : ℕ → ℕ → Option ℕ
-following ballots n = if (n == ballots + 1) || (nat_lt 0 ballots && (n == ballots)) then Some n else None
+following ballots n =
+    if (n == ballots + 1) || (nat_lt 0 ballots && (n == ballots)) then Some n else None
 
 -- the number of a row's ballot, from 1 to 1,024
 abbrev pub ballot_number : ℕ → List ℕ → Option ℕ
@@ -59,11 +60,13 @@ with_ballot deck (mark.Target t) = with_last_mark (with_blank deck) t
 abbrev pub with_further : Ballots → Mark → Option Ballots
 with_further deck mark.Blank = None
 with_further deck (mark.Target t) =
-    if is_blank (ballot_at deck (last_ballot deck)) || mark_at deck (last_ballot deck) t then None else Some (with_last_mark deck t)
+    if is_blank (ballot_at deck (last_ballot deck)) || mark_at deck (last_ballot deck) t
+    then None else Some (with_last_mark deck t)
 
 -- the deck with the mark of a row in the ballot of that number, where it repeats nothing
 abbrev pub with_row : Ballots → ℕ → Mark → Option Ballots
-with_row deck number mark = if number == length deck.ballots then with_further deck mark else Some (with_ballot deck mark)
+with_row deck number mark =
+    if number == length deck.ballots then with_further deck mark else Some (with_ballot deck mark)
 
 -- the deck after one more row
 abbrev pub deck_row : List FullName → ℕ → Ballots → List (List ℕ) → Result Ballots CsvFault

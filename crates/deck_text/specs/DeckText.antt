@@ -15,7 +15,8 @@ deck_header = codes "ballot,contest,target\n"
 -- the row of a ballot's mark at target t, where there is one
 abbrev pub mark_line : List FullName → List ℕ → List Bool → ℕ → List ℕ
 mark_line names number ballot t =
-    if is_marked ballot t then line number (name_at names t).contest (name_at names t).target else []
+    if is_marked ballot t then line number (name_at names t).contest (name_at names t).target
+    else []
 
 -- the rows of a ballot: one for each marked target, in target order, or one row without names
 -- where nothing is marked

@@ -17,7 +17,8 @@ report_fields = codes "contest" ∷ codes "target" ∷ codes "total" ∷ []
 
 -- the totals with one more, where the target had no row before
 abbrev pub with_total : List (Option ℕ) → ℕ → ℕ → Option (List (Option ℕ))
-with_total totals t n = if is_some (get_or totals t None) then None else Some (slice_set totals t (Some n))
+with_total totals t n =
+    if is_some (get_or totals t None) then None else Some (slice_set totals t (Some n))
 
 -- the totals after one more row; a total is at most 4,294,967,295
 abbrev pub report_row : List FullName → ℕ → List (Option ℕ) → List (List ℕ)

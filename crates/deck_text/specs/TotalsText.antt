@@ -15,9 +15,11 @@ totals_header = codes "contest,target,total\n"
 
 -- the row of target t: its name, and its total where each target counts for itself
 abbrev pub total_line : List Contest → List FullName → List (List Bool) → ℕ → List ℕ
-total_line contests names deck t = line (name_at names t).contest (name_at names t).target (decimal (own_total contests deck t))
+total_line contests names deck t =
+    line (name_at names t).contest (name_at names t).target (decimal (own_total contests deck t))
 
 -- the text of the file of a deck's totals, in target order
 abbrev pub totals_text : List Contest → List ContestNames → List (List Bool) → List ℕ
 totals_text contests names deck =
-    totals_header ++ flat_map (total_line contests (target_names names) deck) (range_with_len 0 (target_count contests))
+    totals_header ++ flat_map (total_line contests (target_names names) deck)
+    (range_with_len 0 (target_count contests))

@@ -11,7 +11,8 @@ use lat_base::{Names, Shape};
 fn find_in(shape: &Shape, names: &Names, c: u16, contest: &[u8], target: &[u8]) -> Option<u16>
     requires fit { NamesFit names.now.contests shape.now }
     requires contest { c < length shape.now }
-    ensures number { result ≡ position_from (is_called contest.now target.now) (first_target shape.now c) (names_in (names_at names.now.contests c)) }
+    ensures number { result ≡ position_from (is_called contest.now target.now)
+        (first_target shape.now c) (names_in (names_at names.now.contests c)) }
     ensures range { IfSome result (λ t. t < target_count shape.now) }
 {
     if names.contest(c).as_bytes() != contest {

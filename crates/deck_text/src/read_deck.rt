@@ -59,7 +59,8 @@ fn add_row(
 ) -> Result<(), CsvFault>
     requires fit { NamesFit names.now.contests shape.now }
     requires targets { draft.old.targets ≡ target_count shape.now }
-    ensures ok { OnOk result (deck_row (target_names names.now.contests) row draft.old (fields_of fields.now) ≡ Ok draft.new) }
+    ensures ok { OnOk result (deck_row (target_names names.now.contests) row draft.old
+        (fields_of fields.now) ≡ Ok draft.new) }
     ensures fault { IfErr result
         (λ fault. deck_row (target_names names.now.contests) row draft.old (fields_of fields.now)
         ≡ Err fault) }

@@ -38,7 +38,8 @@ fn add_row(
 ) -> Result<(), CsvFault>
     requires fit { NamesFit names.now.contests shape.now }
     requires targets { length totals.old ≡ target_count shape.now }
-    ensures ok { OnOk result (report_row (target_names names.now.contests) row totals.old (fields_of fields.now) ≡ Ok totals.new) }
+    ensures ok { OnOk result (report_row (target_names names.now.contests) row totals.old
+        (fields_of fields.now) ≡ Ok totals.new) }
     ensures fault { IfErr result
         (λ fault. report_row (target_names names.now.contests) row totals.old (fields_of fields.now)
         ≡ Err fault) }
@@ -69,7 +70,8 @@ fn read_rows(
 ) -> Result<Vec<Option<u32>>, CsvFail>
     requires fit { NamesFit names.now.contests shape.now }
     requires targets { length totals.items ≡ target_count shape.now }
-    ensures totals { Gives (λ totals. totals.items) result (report_from (target_names names.now.contests) 2 totals.items rows.entry) }
+    ensures totals { Gives (λ totals. totals.items) result
+        (report_from (target_names names.now.contests) 2 totals.items rows.entry) }
     ensures targets { IfOk result (λ totals. length totals.items ≡ target_count shape.now) }
 {
     let _targets = shape.targets();

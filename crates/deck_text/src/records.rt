@@ -35,7 +35,8 @@ impl<'a> Model for Records<'a> {
 
     ghost invariant = { λ a. (reader_config a.reader ≡ default_config) ×
         (reader_trim a.reader ≡ trim.None) × (is_flexible a.reader ≡ false)
-        × (took_first a.reader ≡ true) × (expected_len a.reader ≡ Some 3) × (ends_at_end (reader_state a.reader) ≡ false)
+        × (took_first a.reader ≡ true) × (expected_len a.reader ≡ Some 3)
+        × (ends_at_end (reader_state a.reader) ≡ false)
         × IsSome (source_of (λ (s : Bor (List ℕ)). Some s.now) a.reader) };
 }
 
@@ -113,7 +114,8 @@ impl<'a> Records<'a> {
             (length (fields_of fields.new) ≡ 3))) }
         ensures other { IfErr result
             (λ e. e ≢ CsvFail.Memory → (e ≡ CsvFail.Fault (CsvFault.NotCsv row))
-            × (fields : List (List ℕ)) × (rest : List (List (List ℕ))) × (self.entry ≡ fields ∷ rest) × (length fields ≢ 3)) }
+            × (fields : List (List ℕ)) × (rest : List (List (List ℕ)))
+            × (self.entry ≡ fields ∷ rest) × (length fields ≢ 3)) }
     {
         match self.reader.read_byte_record(fields) {
             Ok(true) => Ok(Some(self)),

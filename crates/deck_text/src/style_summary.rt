@@ -7,8 +7,8 @@ use lat_base::Id;
 use std::alloc::{AllocError, Global};
 
 /// The line of one style among many: its id, a space, and what was found, which is `least K`,
-/// `none within M`, `open from F best B` or `open from F best none`, all of them numbers of ballots.
-/// `best`, the ballots of the best deck, is looked at only for `Bounds`.
+/// `none within M`, `open from F best B` or `open from F best none`, all of them numbers of
+/// ballots. `best`, the ballots of the best deck, is looked at only for `Bounds`.
 ///
 /// The one error is want of memory.
 pub fn style_line(

@@ -26,8 +26,8 @@ fn best_words(alloc: Global, best: Option<u16>) -> Result<Vec<u8>, AllocError>
 }
 
 /// What was found of a style, in words: `least K`, `none within M`, `open from F best B` or
-/// `open from F best none`, all of them numbers of ballots. `best`, the ballots of the best deck, is
-/// looked at only for `Bounds`.
+/// `open from F best none`, all of them numbers of ballots. `best`, the ballots of the best deck,
+/// is looked at only for `Bounds`.
 ///
 /// The one error is want of memory.
 pub fn verdict_words(

@@ -81,10 +81,11 @@ fn attack_lines(
     }
 }
 
-/// The summary of an attack on a deck: the style's id, how many ballots there are, whether the rules
-/// are kept or the first one that is broken, and what the attack came to. A misassignment is shown by
-/// a line for each target that doesn't count for itself, with the target from which its marks are
-/// read; targets are printed by the ids of their contest and their own, with a colon between.
+/// The summary of an attack on a deck: the style's id, how many ballots there are, whether the
+/// rules are kept or the first one that is broken, and what the attack came to. A misassignment is
+/// shown by a line for each target that doesn't count for itself, with the target from which its
+/// marks are read; targets are printed by the ids of their contest and their own, with a colon
+/// between.
 ///
 /// The one error is want of memory.
 pub fn verify_text(

@@ -47,7 +47,9 @@ fn write_contest(
     requires number { IsTrue (list_all is_id_byte number.now) }
     requires ballot { j < length deck.now.ballots }
     requires targets { first + length contest.now.targets ≤ deck.now.targets }
-    ensures { IfOk result (λ after. after ≡ table ++ flat_map (mark_line (names_in contest.now) number.now (drop first (ballot_at deck.now j))) (range_with_len 0 (length contest.now.targets))) }
+    ensures { IfOk result (λ after. after ≡ table
+        ++ flat_map (mark_line (names_in contest.now) number.now
+        (drop first (ballot_at deck.now j))) (range_with_len 0 (length contest.now.targets))) }
 {
     let _targets = deck.targets();
     for (i, target) in contest.targets.as_slice().iter().enumerate() {
@@ -69,7 +71,9 @@ fn write_marks(
     requires targets { length (target_names names.now.contests) ≡ deck.now.targets }
     requires number { IsTrue (list_all is_id_byte number.now) }
     requires ballot { j < length deck.now.ballots }
-    ensures { IfOk result (λ after. after ≡ table ++ flat_map (mark_line (target_names names.now.contests) number.now (ballot_at deck.now j)) (range_with_len 0 (length (target_names names.now.contests)))) }
+    ensures { IfOk result (λ after. after ≡ table
+        ++ flat_map (mark_line (target_names names.now.contests) number.now (ballot_at deck.now j))
+        (range_with_len 0 (length (target_names names.now.contests)))) }
 {
     let _targets = deck.targets();
     let mut first = 0;

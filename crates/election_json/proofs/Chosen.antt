@@ -18,7 +18,8 @@ use Rattle.election_json.specs.Styles.{chosen_contest}
 use Rattle.election_json.specs.Kept.{no_entry, entry_at}
 use Rattle.election_json.proofs.Lists.{position_map}
 
-find_position : (p : ContestEntry → Bool) (contests : List ContestEntry) → option_map (entry_at contests) (position p contests) ≡ find p contests
+find_position : (p : ContestEntry → Bool) (contests : List ContestEntry)
+    → option_map (entry_at contests) (position p contests) ≡ find p contests
 find_position p contests =
     let n = position_or_len p contests in
     elim (cases_lt n (length contests)) [
@@ -27,12 +28,16 @@ find_position p contests =
     ]
 
 -- the contest at the place of the id is the one that is found by it
-pub found_by_id : (id : List ℕ) (contests : List ContestEntry) → option_map (entry_at contests) (position (bytes_eq id) (ids_of contests)) ≡ find (λ c. bytes_eq id c.id) contests
+pub found_by_id : (id : List ℕ) (contests : List ContestEntry)
+    → option_map (entry_at contests) (position (bytes_eq id) (ids_of contests))
+    ≡ find (λ c. bytes_eq id c.id) contests
 found_by_id id contests =
     ap (option_map (entry_at contests)) (position_map (bytes_eq id) (λ (c : ContestEntry). c.id) contests) ∙ find_position (λ c. bytes_eq id c.id) contests
 
 -- and it has that id
-pub found_id : (id : List ℕ) (contests : List ContestEntry) (c : ℕ) → position (bytes_eq id) (ids_of contests) ≡ Some c → (c < length contests) × ((entry_at contests c).id ≡ id)
+pub found_id : (id : List ℕ) (contests : List ContestEntry) (c : ℕ)
+    → position (bytes_eq id) (ids_of contests) ≡ Some c
+    → (c < length contests) × ((entry_at contests c).id ≡ id)
 found_id id contests c h =
     let at = position-Some (bytes_eq id) (ids_of contests) c [] h in
     let lt : c < length contests = omega (arith, simp length-map at at.0) in
@@ -44,7 +49,10 @@ is_not true h = cc
 is_not false h = refl
 
 -- an id of a contest that isn't among the earlier ones
-pub chosen_is : (contests : List ContestEntry) (earlier : List (List ℕ)) (place : Place) (value : Data) (text : List ℕ) (contest : ContestEntry) → id_text place value ≡ Ok text
-    → Some contest ≡ find (λ c. bytes_eq text c.id) contests → true ≡ not (list_any (bytes_eq text) earlier) → chosen_contest contests earlier place value ≡ Ok contest
+pub chosen_is : (contests : List ContestEntry) (earlier : List (List ℕ)) (place : Place)
+    (value : Data) (text : List ℕ) (contest : ContestEntry) → id_text place value ≡ Ok text
+    → Some contest ≡ find (λ c. bytes_eq text c.id) contests
+    → true ≡ not (list_any (bytes_eq text) earlier)
+    → chosen_contest contests earlier place value ≡ Ok contest
 chosen_is contests earlier place value text contest h k m =
     rw (h, ← k, is_not (list_any (bytes_eq text) earlier) m) refl

@@ -14,12 +14,14 @@ use Rattle.election_json.specs.Contests.{ids_of, target_entry, contest_entry, ne
 use Rattle.election_json.specs.Limits.{IsContest, AreContests}
 use Rattle.election_json.proofs.Steps.{bind_ok, ok_is, number_range, array_range, new_id_fresh, each_keeps}
 
-targets_once : (i : ℕ) (values : List Data) (ids : List (List ℕ)) → each (target_entry i) values ≡ Ok ids → (has_twice ids ≡ false) × (length ids ≡ length values)
+targets_once : (i : ℕ) (values : List Data) (ids : List (List ℕ))
+    → each (target_entry i) values ≡ Ok ids → (has_twice ids ≡ false) × (length ids ≡ length values)
 targets_once i values ids e =
     let kept = each_keeps (target_entry i) (λ (ts : List (List ℕ)). has_twice ts ≡ false) (λ j earlier value id q h. twice_more earlier id q (new_id_fresh earlier (at.Target i j) value id h)) 0 [] values ids refl e in
     (kept.0, omega (arith, kept.1))
 
-contest_limits : (earlier : List (List ℕ)) (i : ℕ) (value : Data) (c : ContestEntry) → contest_entry earlier i value ≡ Ok c → IsContest c
+contest_limits : (earlier : List (List ℕ)) (i : ℕ) (value : Data) (c : ContestEntry)
+    → contest_entry earlier i value ≡ Ok c → IsContest c
 unfolding contest_entry
 contest_limits earlier i value c e =
     let a = bind_ok (object (at.Contest i) value) _ c e in
@@ -33,7 +35,8 @@ contest_limits earlier i value c e =
     let once = targets_once i f.0 g.0 g.1 in
     subst IsContest (ok_is _ c g.2) (record { limited = number_range 1 64 (at.Limit i) limit-value.0 d.0 limit-value.2; counted = (omega (arith, range.0, once.1), omega (arith, range.1, once.1)); once = once.0 })
 
-pub contests_limits : (values : List Data) (contests : List ContestEntry) → length values ≤ 4096 → each next_contest values ≡ Ok contests → AreContests contests
+pub contests_limits : (values : List Data) (contests : List ContestEntry) → length values ≤ 4096
+    → each next_contest values ≡ Ok contests → AreContests contests
 contests_limits values contests few e =
     let kept = each_keeps next_contest (λ (cs : List ContestEntry). All IsContest cs) (λ i earlier value c q h. All-push IsContest earlier c q (contest_limits (ids_of earlier) i value c h)) 0 [] values contests (All-nil IsContest) e in
     record { few = omega (arith, kept.1); all = kept.0 }

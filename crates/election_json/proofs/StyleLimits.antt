@@ -30,13 +30,16 @@ use Rattle.election_json.specs.Kept.{no_entry}
 use Rattle.election_json.proofs.Lists.{any_map}
 use Rattle.election_json.proofs.Steps.{bind_ok, guard_ok, array_range, new_id_fresh, each_keeps}
 
-found_step : (P : ContestEntry → Type 0) (p : ContestEntry → Bool) (y x : ContestEntry) (rest : Option ContestEntry) (b : Bool) → p y ≡ b → P y → (rest ≡ Some x → P x × (p x ≡ true)) → cond b (Some y) rest ≡ Some x → P x × (p x ≡ true)
+found_step : (P : ContestEntry → Type 0) (p : ContestEntry → Bool) (y x : ContestEntry)
+    (rest : Option ContestEntry) (b : Bool) → p y ≡ b → P y → (rest ≡ Some x → P x × (p x ≡ true))
+    → cond b (Some y) rest ≡ Some x → P x × (p x ≡ true)
 found_step P p y x rest true e here more h =
     let same : y ≡ x = cc in (subst P same here, subst (λ (z : ContestEntry). p z ≡ true) same e)
 found_step P p y x rest false e here more h = more h
 
 -- what is found passes the test, and is one of the list
-found_holds : (P : ContestEntry → Type 0) (p : ContestEntry → Bool) (xs : List ContestEntry) (x : ContestEntry) → AllByRecursion P xs → find p xs ≡ Some x → P x × (p x ≡ true)
+found_holds : (P : ContestEntry → Type 0) (p : ContestEntry → Bool) (xs : List ContestEntry)
+    (x : ContestEntry) → AllByRecursion P xs → find p xs ≡ Some x → P x × (p x ≡ true)
 found_holds P p [] x all h = absurd cc
 found_holds P p (y ∷ xs) x all h =
     found_step P p y x (find p xs) (p y) refl all.0 (λ k. found_holds P p xs x all.1 k) h
@@ -46,7 +49,9 @@ there None d x h = absurd cc
 there (Some y) d x h = cc
 
 -- a chosen contest is one of the contests, and isn't chosen twice
-chosen_limits : (contests : List ContestEntry) (i j : ℕ) (earlier : List ContestEntry) (value : Data) (c : ContestEntry) → AreContests contests → next_chosen contests i j earlier value ≡ Ok c
+chosen_limits : (contests : List ContestEntry) (i j : ℕ) (earlier : List ContestEntry)
+    (value : Data) (c : ContestEntry) → AreContests contests
+    → next_chosen contests i j earlier value ≡ Ok c
     → IsContest c × (list_any (bytes_eq c.id) (ids_of earlier) ≡ false)
 chosen_limits contests i j earlier value c are e =
     let place = at.StyleContest i j in
@@ -59,7 +64,9 @@ chosen_limits contests i j earlier value c are e =
     let fresh = subst (λ (t : List ℕ). list_any (bytes_eq t) (ids_of earlier) ≡ false) same g.0 in
     subst (λ (x : ContestEntry). IsContest x × (list_any (bytes_eq x.id) (ids_of earlier) ≡ false)) g.1 (h.0, fresh)
 
-names_push : (earlier : List ContestEntry) (c : ContestEntry) → AreNames (map contest_names earlier) → list_any (bytes_eq c.id) (ids_of earlier) ≡ false → has_twice c.targets ≡ false → AreNames (map contest_names (earlier ++ c ∷ []))
+names_push : (earlier : List ContestEntry) (c : ContestEntry) → AreNames (map contest_names earlier)
+    → list_any (bytes_eq c.id) (ids_of earlier) ≡ false → has_twice c.targets ≡ false
+    → AreNames (map contest_names (earlier ++ c ∷ []))
 names_push earlier c named fresh once =
     let other = any_map (λ (n : ContestNames). bytes_eq c.id n.id) contest_names earlier ∙ sym (any_map (bytes_eq c.id) (λ (x : ContestEntry). x.id) earlier) ∙ fresh in
     subst AreNames (sym (map_push contest_names earlier c)) (names_more (map contest_names earlier) (contest_names c) named (or_from _ (has_twice c.targets) other once))
@@ -68,7 +75,9 @@ pub record AreChosen (chosen : List ContestEntry) : Type 0 where
   pub all : All IsContest chosen
   pub named : AreNames (map contest_names chosen)
 
-chosen_push : (contests : List ContestEntry) (i j : ℕ) (earlier : List ContestEntry) (value : Data) (c : ContestEntry) → AreContests contests → AreChosen earlier → next_chosen contests i j earlier value ≡ Ok c → AreChosen (earlier ++ c ∷ [])
+chosen_push : (contests : List ContestEntry) (i j : ℕ) (earlier : List ContestEntry) (value : Data)
+    (c : ContestEntry) → AreContests contests → AreChosen earlier
+    → next_chosen contests i j earlier value ≡ Ok c → AreChosen (earlier ++ c ∷ [])
 chosen_push contests i j earlier value c are so_far e =
     let h = chosen_limits contests i j earlier value c are e in
     record { all = All-push IsContest earlier c so_far.all h.0; named = names_push earlier c so_far.named h.1 h.0.once }
@@ -77,7 +86,8 @@ none_chosen : AreChosen []
 none_chosen = record { all = All-nil IsContest; named = record { ids = refl; targets = All-nil _ } }
 
 -- names and shape are of the same contests
-names_fit : (chosen : List ContestEntry) → NamesFit (map contest_names chosen) (map contest_shape chosen)
+names_fit : (chosen : List ContestEntry)
+    → NamesFit (map contest_names chosen) (map contest_shape chosen)
 names_fit chosen = record {
   count = simp length-map;
   targets = λ k lt.
@@ -85,7 +95,9 @@ names_fit chosen = record {
       rw (get_or-map contest_names chosen k no_entry no_names inside, get_or-map contest_shape chosen k no_entry no_contest inside) refl;
 }
 
-style_is : (id : List ℕ) (chosen : List ContestEntry) → AreChosen chosen → (1 ≤ length chosen) × (length chosen ≤ 128) → target_count (map contest_shape chosen) ≤ 256 → IsStyle (style_with id chosen)
+style_is : (id : List ℕ) (chosen : List ContestEntry) → AreChosen chosen
+    → (1 ≤ length chosen) × (length chosen ≤ 128) → target_count (map contest_shape chosen) ≤ 256
+    → IsStyle (style_with id chosen)
 style_is id chosen are range few = record {
   shaped = record {
     some = rw length-map range.0;
@@ -98,12 +110,15 @@ style_is id chosen are range few = record {
   fits = names_fit chosen;
 }
 
-few_limits : (place : Place) (style s : DefinedStyle) → of_few_targets place style ≡ Ok s → (target_count style.shape ≤ 256) × (style ≡ s)
+few_limits : (place : Place) (style s : DefinedStyle) → of_few_targets place style ≡ Ok s
+    → (target_count style.shape ≤ 256) × (style ≡ s)
 few_limits place style s e =
     let g = guard_ok (nat_lt 256 (target_count style.shape)) (TooManyTargets place (target_count style.shape)) style s e in
     (ltb-false _ _ g.0, g.1)
 
-style_limits : (contests : List ContestEntry) (earlier : List (List ℕ)) (i : ℕ) (value : Data) (s : DefinedStyle) → AreContests contests → style_entry contests earlier i value ≡ Ok s → IsStyle s × (list_any (bytes_eq s.names.style) earlier ≡ false)
+style_limits : (contests : List ContestEntry) (earlier : List (List ℕ)) (i : ℕ) (value : Data)
+    (s : DefinedStyle) → AreContests contests → style_entry contests earlier i value ≡ Ok s
+    → IsStyle s × (list_any (bytes_eq s.names.style) earlier ≡ false)
 unfolding style_entry
 style_limits contests earlier i value s are e =
     let a = bind_ok (object (at.Style i) value) _ s e in
@@ -122,7 +137,9 @@ pub record AreStyles (styles : List DefinedStyle) : Type 0 where
   pub all : All IsStyle styles
   pub once : has_twice (style_ids styles) ≡ false
 
-style_push : (contests : List ContestEntry) (i : ℕ) (earlier : List DefinedStyle) (value : Data) (s : DefinedStyle) → AreContests contests → AreStyles earlier → next_style contests i earlier value ≡ Ok s → AreStyles (earlier ++ s ∷ [])
+style_push : (contests : List ContestEntry) (i : ℕ) (earlier : List DefinedStyle) (value : Data)
+    (s : DefinedStyle) → AreContests contests → AreStyles earlier
+    → next_style contests i earlier value ≡ Ok s → AreStyles (earlier ++ s ∷ [])
 style_push contests i earlier value s are so_far e =
     let h = style_limits contests (style_ids earlier) i value s are e in
     record { all = All-push IsStyle earlier s so_far.all h.0; once = rw (map_push (λ (t : DefinedStyle). t.names.style) earlier s) (twice_more (style_ids earlier) s.names.style so_far.once h.1) }

@@ -48,7 +48,8 @@ values place value = or_fault (option_map values_of (as_array value)) (WrongKind
 abbrev pub array : ℕ → ℕ → Place → Data → Result (List Data) DefFault
 array low high place value = do
   entries ← values place value
-  if is_outside low high (length entries) then Err (OutOfRange place (length entries)) else Ok entries
+  if is_outside low high (length entries) then Err (OutOfRange place (length entries))
+      else Ok entries
 
 -- a string that is an id
 abbrev pub id_text : Place → Data → Result (List ℕ) DefFault

@@ -32,7 +32,11 @@ contest_shape c = record { limit = c.limit; targets = length c.targets }
 
 -- the style of that id that has these contests
 abbrev pub style_with : List ℕ → List ContestEntry → DefinedStyle
-style_with id contests = record { names = record { style = id; contests = map contest_names contests }; shape = map contest_shape contests }
+style_with id contests =
+    record {
+      names = record { style = id; contests = map contest_names contests };
+      shape = map contest_shape contests;
+    }
 
 -- the ids of styles, in order
 abbrev pub style_ids : List DefinedStyle → List (List ℕ)
@@ -55,7 +59,8 @@ next_chosen contests i j earlier value =
 -- the style, whose contests must have at most 256 targets together
 abbrev pub of_few_targets : Place → DefinedStyle → Result DefinedStyle DefFault
 of_few_targets place style =
-    if nat_lt 256 (target_count style.shape) then Err (TooManyTargets place (target_count style.shape)) else Ok style
+    if nat_lt 256 (target_count style.shape)
+    then Err (TooManyTargets place (target_count style.shape)) else Ok style
 
 -- style number i, whose id is none of the earlier ids
 unfoldable pub style_entry : List ContestEntry → List (List ℕ) → ℕ → Data

@@ -25,7 +25,8 @@ impl Model for Definition {
 
     ghost use Rattle.election_json.specs.Kept.{kept_styles, IsWithin};
 
-    ghost view = { λ a. record { rules = a.rules; styles = kept_styles a.contests a.styles.items } };
+    ghost view = { λ a.
+        record { rules = a.rules; styles = kept_styles a.contests a.styles.items } };
 
     ghost invariant = { λ a. IsDefinition
         (record { rules = a.rules; styles = kept_styles a.contests a.styles.items }) ×

@@ -10,8 +10,8 @@ pub enum DefFault {
     /// A member isn't there.
     #[error("a member is missing")]
     Missing(Place),
-    /// A value is of another kind: `null` always is, and so is a number other than an unsigned 64-bit
-    /// integer where a whole number is wanted.
+    /// A value is of another kind: `null` always is, and so is a number other than an unsigned
+    /// 64-bit integer where a whole number is wanted.
     #[error("a value is of the wrong kind")]
     WrongKind(Place),
     /// A string is no id: 1 to 64 ASCII letters, digits, dots, underscores and dashes.

@@ -6,8 +6,8 @@ use indexmap::IndexSet;
 use std::alloc::{AllocError, Global};
 use std::marker::Model;
 
-/// Ids as bytes, none twice, in the order in which they were inserted. They are found by their hash,
-/// so that many ids are read in a time that grows with their number and not with its square.
+/// Ids as bytes, none twice, in the order in which they were inserted. They are found by their
+/// hash, so that many ids are read in a time that grows with their number and not with its square.
 #[derive(Debug, Drop)]
 pub struct IdSet {
     ids: IndexSet<Vec<u8>>,

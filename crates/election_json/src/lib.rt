@@ -21,6 +21,3 @@ pub use definition::Definition;
 pub use fault::{DefFail, DefFault};
 pub use place::Place;
 pub use reading::read_definition;
-
-#[cfg(test)]
-mod tests;

@@ -52,11 +52,11 @@ fn read(alloc: Global, bytes: &[u8]) -> Result<Definition, DefFail>
 ///
 /// - `rules`: `distinct` (true or false), `least` (0 to 64), `blank` and `over` (0 to 16).
 /// - `contests`: 1 to 4,096 objects with `id`, `limit` (1 to 64) and `targets` (1 to 64 ids).
-/// - `styles`: 1 to 4,096 objects with `id` and `contests` (the ids of 1 to 128 contests, which have
-///   at most 256 targets together).
+/// - `styles`: 1 to 4,096 objects with `id` and `contests` (the ids of 1 to 128 contests, which
+///   have at most 256 targets together).
 ///
-/// They are checked in this order, each contest and each style whole before the next. `Memory` comes
-/// where memory runs out.
+/// They are checked in this order, each contest and each style whole before the next. `Memory`
+/// comes where memory runs out.
 pub fn read_definition(alloc: Global, bytes: &[u8]) -> Result<Definition, DefFail>
     ensures ok { IfOk result (λ d. definition_of bytes.now ≡ Ok d) }
     ensures fault { (f : DefFault) → result ≡ Err (DefFail.Fault f) →

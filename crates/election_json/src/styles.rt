@@ -93,7 +93,8 @@ fn style_entry(
     i: u32,
     value: &Value,
 ) -> Result<StyleEntry, DefFail>
-    ensures gives { Gives (kept_style contests.now) result (style_entry contests.now earlier.old i (view value.now)) }
+    ensures gives { Gives (kept_style contests.now) result
+        (style_entry contests.now earlier.old i (view value.now)) }
     ensures added { IfOk result (λ s. earlier.new ≡ earlier.old ++ s.id ∷ []) }
     ensures within { IfOk result (IsWithin contests.now) }
 {

@@ -50,7 +50,8 @@ most_factorial (suc (suc n)) =
     larger m a f h two = omega (arith, h, two)
 
 -- a target that no image has
-pub not_used : (y : ℕ) (xs : List (Option ℕ)) → ((w : ℕ) → source_at xs w ≡ Some y → ⊥) → is_used xs y ≡ false
+pub not_used : (y : ℕ) (xs : List (Option ℕ)) → ((w : ℕ) → source_at xs w ≡ Some y → ⊥)
+    → is_used xs y ≡ false
 not_used y [] h = refl
 not_used y (None ∷ xs) h = not_used y xs (λ w e. h (suc w) e)
 not_used y (Some x ∷ xs) h = by_test (x == y) refl (not_used y xs (λ w e. h (suc w) e))
@@ -66,8 +67,10 @@ or_second : (a b : Bool) → b ≡ true → (a || b) ≡ true
 or_second true b e = refl
 or_second false b e = e
 
--- where one number of a range passes a second test and not the first, and none passes the first alone
-one_passes_more : (p q : ℕ → Bool) (n y : ℕ) → y < n → ((t : ℕ) → p t ≡ true → q t ≡ true) → p y ≡ false → q y ≡ true
+-- where one number of a range passes a second test and not the first, and none passes the first
+-- alone
+one_passes_more : (p q : ℕ → Bool) (n y : ℕ) → y < n → ((t : ℕ) → p t ≡ true → q t ≡ true)
+    → p y ≡ false → q y ≡ true
     → count_by p (range_with_len 0 n) + 1 ≤ count_by q (range_with_len 0 n)
 one_passes_more p q zero y lt h no_p yes_q = absurd (omega arith)
 one_passes_more p q (suc n) y lt h no_p yes_q =
@@ -88,7 +91,8 @@ one_passes_more p q (suc n) y lt h no_p yes_q =
     one_le true false k = absurd (cc (k refl))
 
 -- as many targets are used as images have a source
-used_count : (xs : List (Option ℕ)) (n : ℕ) → ((u t : ℕ) → source_at xs u ≡ Some t → t < n) → ((u w t : ℕ) → source_at xs u ≡ Some t → source_at xs w ≡ Some t → u ≡ w)
+used_count : (xs : List (Option ℕ)) (n : ℕ) → ((u t : ℕ) → source_at xs u ≡ Some t → t < n)
+    → ((u w t : ℕ) → source_at xs u ≡ Some t → source_at xs w ≡ Some t → u ≡ w)
     → count_by is_some xs ≤ count_by (is_used xs) (range_with_len 0 n)
 used_count [] n within once = omega arith
 used_count (None ∷ xs) n within once =
@@ -103,7 +107,8 @@ used_count (Some y ∷ xs) n within once =
     omega (arith, rest, one, sum_by-cons (λ (o : Option ℕ). cond (is_some o) 1 0) (Some y) xs)
 
 -- an image has at most as many kids as there are images without a source
-kids_few : (sought : Sought) (s : PartialMisassignment) (u : ℕ) → IsPartialMisassignment s → length (kids_of sought s.sources u) + length s.order ≤ length s.sources
+kids_few : (sought : Sought) (s : PartialMisassignment) (u : ℕ) → IsPartialMisassignment s
+    → length (kids_of sought s.sources u) + length s.order ≤ length s.sources
 kids_few sought s u is =
     let n = length s.sources in
     let used = used_count s.sources n is.are.within is.are.once in
@@ -125,7 +130,8 @@ kids_few sought s u is =
 abbrev left : PartialMisassignment → ℕ
 left s = length s.sources - length s.order
 
-fork_most : (c z p : ℕ) → c ≤ z → ((m : ℕ) → suc m ≡ z → p ≤ c * most_nodes m) → (c ≡ 0 → p ≡ 0) → 1 + p ≤ most_nodes z
+fork_most : (c z p : ℕ) → c ≤ z → ((m : ℕ) → suc m ≡ z → p ≤ c * most_nodes m) → (c ≡ 0 → p ≡ 0)
+    → 1 + p ≤ most_nodes z
 fork_most c zero p few each nothing = omega (arith, nothing (omega (arith, few)))
 fork_most c (suc m) p few each nothing = omega (arith, each m refl, mul-le-mul_right (most_nodes m) few)
 
@@ -134,15 +140,21 @@ no_kids none e = refl
 no_kids (more t ts) e = absurd (omega (arith, e))
 
 module _ (sought : Sought) where
-  own_kid : (s : PartialMisassignment) (u n k : ℕ) → IsEvadeState sought s → (evade_steps sought).arity s u ≡ Some n → k < n → IsEvadeState sought ((evade_steps sought).kid s u k)
+  own_kid : (s : PartialMisassignment) (u n k : ℕ) → IsEvadeState sought s
+      → (evade_steps sought).arity s u ≡ Some n → k < n
+      → IsEvadeState sought ((evade_steps sought).kid s u k)
   own_kid s u n k own a lt = kid_is_own sought s u k ((evade_steps sought).kid s u k) (record { kids = n; is_own = own; arity = a; below = lt; is_kid = refl })
 
-  one_less : (s : PartialMisassignment) (u n k m : ℕ) → IsEvadeState sought s → (evade_steps sought).arity s u ≡ Some n → k < n → suc m ≡ left s → left ((evade_steps sought).kid s u k) ≡ m
+  one_less : (s : PartialMisassignment) (u n k m : ℕ) → IsEvadeState sought s
+      → (evade_steps sought).arity s u ≡ Some n → k < n → suc m ≡ left s
+      → left ((evade_steps sought).kid s u k) ≡ m
   one_less s u n k m own a lt e =
       omega (arith, e, with_long s.sources u (get_or (kids_of sought s.sources u) k 0), length-append s.order (u ∷ []))
 
   mutual
-    attack_few : (t : Rose ℕ Skipped) (s : PartialMisassignment) → IsEvadeState sought s → ChecksWith true (evade_steps sought) s t → count_by is_pick (preorder t) ≤ most_nodes (left s)
+    attack_few : (t : Rose ℕ Skipped) (s : PartialMisassignment) → IsEvadeState sought s
+        → ChecksWith true (evade_steps sought) s t
+        → count_by is_pick (preorder t) ≤ most_nodes (left s)
     attack_few (Closed r) s own h = some_node (left s)
     attack_few Opened s own h = omega arith
     attack_few (Forked u ts) s own h =
@@ -151,8 +163,11 @@ module _ (sought : Sought) where
         let all = fork_most (count ts) (left s) (count_by is_pick (preorder_all ts)) few (λ m e. attacks_few ts s u 0 (count ts) m own h.0 (omega arith) e h.1) (no_kids ts) in
         omega (arith, all, sum_by-cons (λ (n : Node ℕ Skipped). cond (is_pick n) 1 0) (Fork u (count ts)) (preorder_all ts))
 
-    attacks_few : (ts : Roses ℕ Skipped) (s : PartialMisassignment) (u from n m : ℕ) → IsEvadeState sought s → (evade_steps sought).arity s u ≡ Some n → from + count ts ≡ n → suc m ≡ left s
-        → KidsCheckWith true (evade_steps sought) s u from ts → count_by is_pick (preorder_all ts) ≤ count ts * most_nodes m
+    attacks_few : (ts : Roses ℕ Skipped) (s : PartialMisassignment) (u from n m : ℕ)
+        → IsEvadeState sought s → (evade_steps sought).arity s u ≡ Some n → from + count ts ≡ n
+        → suc m ≡ left s
+        → KidsCheckWith true (evade_steps sought) s u from ts
+        → count_by is_pick (preorder_all ts) ≤ count ts * most_nodes m
     attacks_few none s u from n m own a last e h = omega arith
     attacks_few (more t ts) s u from n m own a last e h =
         let lt : from < n = omega (arith, last) in
@@ -164,7 +179,10 @@ module _ (sought : Sought) where
         omega (arith, one, same, rest, both)
 
   -- an open tree over the misassignments of T targets has fewer than 3 T! Close and Fork nodes
-  pub open_attack_few : (budget : ℕ) (nodes : List (Node ℕ Skipped)) → IsEvadeState sought (start sought) → IsOpenTree (evade_steps sought) (start sought) budget nodes → budget < 3 * factorial (target_count sought.contests)
+  pub open_attack_few : (budget : ℕ) (nodes : List (Node ℕ Skipped))
+      → IsEvadeState sought (start sought)
+      → IsOpenTree (evade_steps sought) (start sought) budget nodes
+      → budget < 3 * factorial (target_count sought.contests)
   open_attack_few budget nodes own open_tree =
       let bound = attack_few (tree_of nodes) (start sought) own open_tree.checks in
       let all : left (start sought) ≡ target_count sought.contests = omega (arith, length-replicate {A = Option ℕ} (target_count sought.contests) None) in

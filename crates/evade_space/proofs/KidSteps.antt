@@ -15,11 +15,14 @@ use Rattle.evade_space.specs.Steps.{IsEvadeState, evade_steps}
 use Rattle.evade_space.proofs.Known.{free_at, with_long, given_more}
 use Rattle.evade_space.proofs.Laws.{allowed, kid_can}
 
-are_given : (sought : Sought) (s : PartialMisassignment) → IsEvadeState sought s → AreGiven (target_count sought.contests) s.sources
+are_given : (sought : Sought) (s : PartialMisassignment) → IsEvadeState sought s
+    → AreGiven (target_count sought.contests) s.sources
 are_given sought s own = subst (λ (n : ℕ). AreGiven n s.sources) own.long own.partly.are
 
 -- a kid gives its image an unused target
-pub giving_at : (sought : Sought) (s : PartialMisassignment) (u n k t : ℕ) → IsEvadeState sought s → (evade_steps sought).arity s u ≡ Some n → k < n → t ≡ get_or (kids_of sought s.sources u) k 0 → IsGiving sought s.sources u t
+pub giving_at : (sought : Sought) (s : PartialMisassignment) (u n k t : ℕ) → IsEvadeState sought s
+    → (evade_steps sought).arity s u ≡ Some n → k < n → t ≡ get_or (kids_of sought s.sources u) k 0
+    → IsGiving sought s.sources u t
 giving_at sought s u n k t own arity lt e =
     let may = allowed sought s u n arity in
     let free = free_at s.sources u may.0 in
@@ -33,7 +36,8 @@ giving_at sought s u n k t own arity lt e =
     })
 
 -- the space's own states have their marks counted
-pub own_marks : (sought : Sought) (s : PartialMisassignment) → IsEvadeState sought s → HasMarks sought s
+pub own_marks : (sought : Sought) (s : PartialMisassignment) → IsEvadeState sought s
+    → HasMarks sought s
 own_marks sought s own = record {
   is_sought = own.is_sought;
   are = are_given sought s own;
@@ -45,7 +49,8 @@ own_marks sought s own = record {
 }
 
 -- where a source came
-pub marks_came : (sought : Sought) (s now : PartialMisassignment) (u t : ℕ) → IsEvadeState sought s → IsGiving sought s.sources u t
+pub marks_came : (sought : Sought) (s now : PartialMisassignment) (u t : ℕ) → IsEvadeState sought s
+    → IsGiving sought s.sources u t
     → now ≡ moved s u t (record (counts_of sought.contests sought.deck (with_source s.sources u t)) { may = s.counts.may; must = s.counts.must }) → HasMarks sought now
 marks_came sought s now u t own is e =
     let marks = own_marks sought s own in
@@ -60,7 +65,9 @@ marks_came sought s now u t own is e =
     })
 
 -- where one went
-pub marks_went : (sought : Sought) (s old now : PartialMisassignment) (u t : ℕ) → IsEvadeState sought s → old ≡ moved s u t (counts_of sought.contests sought.deck (with_source s.sources u t))
+pub marks_went : (sought : Sought) (s old now : PartialMisassignment) (u t : ℕ)
+    → IsEvadeState sought s → old ≡ moved s u t
+    (counts_of sought.contests sought.deck (with_source s.sources u t))
     → now ≡ keeping s (record (counts_of sought.contests sought.deck s.sources) { may = old.counts.may; must = old.counts.must }) → HasMarks sought now
 marks_went sought s old now u t own was e =
     let long = with_long s.sources u t in

@@ -48,7 +48,8 @@ use Rattle.evade_space.proofs.OneMore.{OneMore, taken_here, free_here}
 use Rattle.evade_space.proofs.Ranges.{any_here}
 
 -- copies that pass a test
-count_copies : (p : List Bool → Bool) (k : ℕ) (b : List Bool) → count_by p (replicate k b) ≡ cond (p b) k 0
+count_copies : (p : List Bool → Bool) (k : ℕ) (b : List Bool)
+    → count_by p (replicate k b) ≡ cond (p b) k 0
 count_copies p k b = sum_by-replicate (λ (x : List Bool). cond (p x) 1 0) k b ∙ by_test (p b)
   where
     by_test : (x : Bool) → k * cond x 1 0 ≡ cond x k 0
@@ -60,7 +61,8 @@ abbrev copies : RuleSet → ℕ → ℕ
 copies rules t = t + 1 + (rules.least - 1)
 
 count_runs : (p : List Bool → Bool) (targets : ℕ) (rules : RuleSet) (n : ℕ)
-    → count_by p (flat_map (only_ballots targets rules) (range_with_len 0 n)) ≡ sum_by (λ t. cond (p (only targets t)) (copies rules t) 0) (range_with_len 0 n)
+    → count_by p (flat_map (only_ballots targets rules) (range_with_len 0 n))
+    ≡ sum_by (λ t. cond (p (only targets t)) (copies rules t) 0) (range_with_len 0 n)
 count_runs p targets rules zero = refl
 count_runs p targets rules (suc n) =
     let next : suc n ≡ n + 1 = omega arith in
@@ -122,7 +124,8 @@ zeros (suc n) =
       zeros n,
     )
 
-pub sum_one : (f : ℕ → ℕ) (n i : ℕ) → i < n → ((j : ℕ) → j < n → j ≢ i → f j ≡ 0) → sum_by f (range_with_len 0 n) ≡ f i
+pub sum_one : (f : ℕ → ℕ) (n i : ℕ) → i < n → ((j : ℕ) → j < n → j ≢ i → f j ≡ 0)
+    → sum_by f (range_with_len 0 n) ≡ f i
 sum_one f n i lt h = let but = sum_but f (λ (t : ℕ). 0) n i lt h in omega (arith, but, zeros n)
 
 sum_some : (f : ℕ → ℕ) (n i : ℕ) → i < n → f i ≤ sum_by f (range_with_len 0 n)
@@ -131,11 +134,13 @@ sum_some f n i lt =
     omega (arith, ap f at, get_or-le-sum_by f (range_with_len 0 n) i 0 (omega (arith, lt, length-range_with_len 0 n)))
 
 -- the numbers of a range that pass a test, where only one does
-filter_none : (p : ℕ → Bool) (n : ℕ) → ((j : ℕ) → j < n → p j ≡ false) → filter p (range_with_len 0 n) ≡ []
+filter_none : (p : ℕ → Bool) (n : ℕ) → ((j : ℕ) → j < n → p j ≡ false)
+    → filter p (range_with_len 0 n) ≡ []
 filter_none p zero h = refl
 filter_none p (suc n) h = filter_suc p n ∙ (λ i. filter_none p n (λ j lt. h j (omega (arith, lt))) i ++ cond (h n (omega arith) i) (n ∷ []) [])
 
-filter_one : (p : ℕ → Bool) (n i : ℕ) → i < n → ((j : ℕ) → j < n → j ≢ i → p j ≡ false) → p i ≡ true → filter p (range_with_len 0 n) ≡ i ∷ []
+filter_one : (p : ℕ → Bool) (n i : ℕ) → i < n → ((j : ℕ) → j < n → j ≢ i → p j ≡ false) → p i ≡ true
+    → filter p (range_with_len 0 n) ≡ i ∷ []
 filter_one p zero i lt h yes_i = absurd (omega arith)
 filter_one p (suc n) i lt h yes_i = elim (cases_eq n i) [
   | inl same ↦
@@ -150,7 +155,8 @@ pub record AreFirst (targets : ℕ) (sources : List (Option ℕ)) (i : ℕ) : Ty
   pub own : (u : ℕ) → u < i → source_at sources u ≡ Some u
   pub rest : (u : ℕ) → i ≤ u → source_at sources u ≡ None
 
-first_more : (targets : ℕ) (sources : List (Option ℕ)) (i x : ℕ) → AreFirst targets sources i → i < targets → x ≡ i → AreFirst targets (with_source sources i x) (suc i)
+first_more : (targets : ℕ) (sources : List (Option ℕ)) (i x : ℕ) → AreFirst targets sources i
+    → i < targets → x ≡ i → AreFirst targets (with_source sources i x) (suc i)
 first_more targets sources i x are lt e = record {
   long = with_long sources i x ∙ are.long;
   own = λ u less. elim (cases_eq u i) [
@@ -160,7 +166,8 @@ first_more targets sources i x are lt e = record {
   rest = λ u le. at_other sources i x u (λ same. omega (arith, same, le)) ∙ are.rest u (omega (arith, le));
 }
 
-is_below : (targets : ℕ) (sources : List (Option ℕ)) (i w t : ℕ) → AreFirst targets sources i → source_at sources w ≡ Some t → (w < i) × (w ≡ t)
+is_below : (targets : ℕ) (sources : List (Option ℕ)) (i w t : ℕ) → AreFirst targets sources i
+    → source_at sources w ≡ Some t → (w < i) × (w ≡ t)
 is_below targets sources i w t are e = elim (cases_lt w i) [
   | inl lt ↦ (lt, (let at = are.own w lt in cc))
   | inr ge ↦ absurd (let at = are.rest w ge in cc)
@@ -177,10 +184,12 @@ module _ (contests : List Contest) (rules : RuleSet) (shape : IsShape contests) 
   abbrev votes : ℕ → List Bool → Bool
   votes i ballot = votes_for contests (reading ballot (identity (target_count contests))) i
 
-  votes_read : (i : ℕ) (ballot : List Bool) → length ballot ≡ target_count contests → votes i ballot ≡ votes_for contests ballot i
+  votes_read : (i : ℕ) (ballot : List Bool) → length ballot ≡ target_count contests
+      → votes i ballot ≡ votes_for contests ballot i
   votes_read i ballot long = ap (λ (r : List Bool). votes_for contests r i) (reading_identity ballot (target_count contests) long)
 
-  unmarked_vote : (i : ℕ) (ballot : List Bool) → length ballot ≡ target_count contests → is_marked ballot i ≡ false → votes i ballot ≡ false
+  unmarked_vote : (i : ℕ) (ballot : List Bool) → length ballot ≡ target_count contests
+      → is_marked ballot i ≡ false → votes i ballot ≡ false
   unmarked_vote i ballot long e = votes_read i ballot long ∙ ap (λ (m : Bool). m && not (is_overvoted contests ballot (contest_of contests i))) e
 
   at_most : (p : Bool) (k : ℕ) → cond p k 0 ≤ k
@@ -188,7 +197,9 @@ module _ (contests : List Contest) (rules : RuleSet) (shape : IsShape contests) 
   at_most false k = omega arith
 
   -- the wanted votes
-  pub wanted_few : (i : ℕ) → i < target_count contests → total contests deck (identity (target_count contests)) i ≤ cond (votes i (replicate (target_count contests) true)) rules.over 0 + copies rules i
+  pub wanted_few : (i : ℕ) → i < target_count contests
+      → total contests deck (identity (target_count contests)) i
+      ≤ cond (votes i (replicate (target_count contests) true)) rules.over 0 + copies rules i
   wanted_few i lt =
       let count = plain_count (votes i) (target_count contests) rules in
       let one = sum_one (λ t. cond (votes i (only (target_count contests) t)) (copies rules t) 0) (target_count contests) i lt
@@ -222,7 +233,9 @@ module _ (contests : List Contest) (rules : RuleSet) (shape : IsShape contests) 
         let zero_count = count_alike (is_seen (only (target_count contests) t)) (λ (o : Option ℕ). false) sources fail ∙ none_pass sources in
         omega (arith, few, all, zero_count)
       where
-        by_source : (k : ℕ) (d : Option ℕ) → k < length sources → (o : Option ℕ) → source_at sources k ≡ o → is_seen (only (target_count contests) t) (get_or sources k d) ≡ false
+        by_source : (k : ℕ) (d : Option ℕ) → k < length sources → (o : Option ℕ)
+            → source_at sources k ≡ o → is_seen (only (target_count contests) t)
+            (get_or sources k d) ≡ false
         by_source k d less None e = ap (is_seen (only (target_count contests) t)) (get_or_default sources k d None less ∙ e)
         by_source k d less (Some x) e =
             let below = is_below (target_count contests) sources i k x are e in
@@ -239,7 +252,8 @@ module _ (contests : List Contest) (rules : RuleSet) (shape : IsShape contests) 
         (λ x h. is_that_one x (and_parts (is_marked (only (target_count contests) t) x) (not (is_used sources x)) h).0) in
         omega (arith, before, mark, few, one_in 0 (length sources) t (omega arith) (omega (arith, inside, are.long)))
       where
-        is_that_one : (x : ℕ) → is_marked (only (target_count contests) t) x ≡ true → (x == t) ≡ true
+        is_that_one : (x : ℕ) → is_marked (only (target_count contests) t) x ≡ true
+            → (x == t) ≡ true
         is_that_one x h = elim (cases_eq x t) [
           | inl e ↦ eq-eqb x t e
           | inr ne ↦ absurd (let no_mark = only_other (target_count contests) t x ne in cc)
@@ -282,7 +296,9 @@ module _ (contests : List Contest) (rules : RuleSet) (shape : IsShape contests) 
         every (y ∷ ys) = omega (arith, every ys, sum_by-cons (λ (m : Bool). cond true 1 0) y ys)
 
     -- a wholly marked ballot marks each target of a contest
-    full_count : mark_count contests (replicate (target_count contests) true) (contest_of contests i) ≡ first_target contests (contest_of contests i + 1) - first_target contests (contest_of contests i)
+    full_count : mark_count contests (replicate (target_count contests) true)
+        (contest_of contests i) ≡ first_target contests (contest_of contests i + 1) - first_target
+        contests (contest_of contests i)
     full_count =
         let a : ℕ = first_target contests (contest_of contests i) in
         let b : ℕ = first_target contests (contest_of contests i + 1) in
@@ -296,7 +312,9 @@ module _ (contests : List Contest) (rules : RuleSet) (shape : IsShape contests) 
         ∙ get_or-replicate (target_count contests) (first_target contests (contest_of contests i) + k) true d (omega (arith, less, long, whole)))
         ∙ long
 
-    places_are : given_places contests after (contest_of contests i) + empty_places contests after (contest_of contests i) ≡ first_target contests (contest_of contests i + 1) - first_target contests (contest_of contests i)
+    places_are : given_places contests after (contest_of contests i) + empty_places contests after
+        (contest_of contests i) ≡ first_target contests (contest_of contests i + 1) - first_target
+        contests (contest_of contests i)
     places_are =
         let whole = first_le contests (contest_of contests i + 1) in
         both_places (slice_range after (first_target contests (contest_of contests i)) (first_target contests (contest_of contests i + 1)))
@@ -307,7 +325,8 @@ module _ (contests : List Contest) (rules : RuleSet) (shape : IsShape contests) 
     min_le a b = grind arith
 
     -- a wholly marked ballot that votes for i surely does
-    pub full_sure : votes i (replicate (target_count contests) true) ≡ true → must_vote_on contests after i (replicate (target_count contests) true) ≡ true
+    pub full_sure : votes i (replicate (target_count contests) true) ≡ true
+        → must_vote_on contests after i (replicate (target_count contests) true) ≡ true
     full_sure h =
         let read = sym (votes_read i (replicate (target_count contests) true) (length-replicate (target_count contests) true)) ∙ h in
         let fits = not-true (is_overvoted contests (replicate (target_count contests) true) (contest_of contests i))
@@ -329,7 +348,8 @@ module _ (contests : List Contest) (rules : RuleSet) (shape : IsShape contests) 
     cond_le true false k h = absurd (cc (h refl))
 
     -- so more ballots vote for i than are wanted
-    pub more_vote : total contests deck (identity (target_count contests)) i < must_vote contests deck after i
+    pub more_vote : total contests deck (identity (target_count contests)) i
+        < must_vote contests deck after i
     more_vote =
         let count = plain_count (must_vote_on contests after i) (target_count contests) rules in
         let runs = sum_some (λ x. cond (must_vote_on contests after i (only (target_count contests) x)) (copies rules x) 0) (target_count contests) t inside in
@@ -396,7 +416,9 @@ module _ (contests : List Contest) (rules : RuleSet) (shape : IsShape contests) 
   chain r i zero = Closed r
   chain r i (suc k) = Forked i (more (chain r (suc i) k) none)
 
-  chain_checks : (r : Skipped) (k i : ℕ) (s : PartialMisassignment) → AreFirst (target_count contests) s.sources i → i + k ≡ target_count contests → Checks (evade_steps (own_sought contests deck)) s (chain r i k)
+  chain_checks : (r : Skipped) (k i : ℕ) (s : PartialMisassignment)
+      → AreFirst (target_count contests) s.sources i → i + k ≡ target_count contests
+      → Checks (evade_steps (own_sought contests deck)) s (chain r i k)
   chain_checks r zero i s are e =
       let all : (u : ℕ) → u < length s.sources → has_skipped (own_sought contests deck) s.sources u ≡ true = λ u less.
       let at : get_or (identity (target_count contests)) u 0 ≡ u = omega (arith, get_or-range_with_len 0 (target_count contests) u 0 (omega (arith, less, are.long))) in
@@ -436,7 +458,9 @@ module _ (contests : List Contest) (rules : RuleSet) (shape : IsShape contests) 
   }
 
   -- the tree checks, and its nodes list it
-  pub plain_tree : (r : Skipped) (nodes : List (Node ℕ Skipped)) → nodes ≡ map (λ u. Fork u 1) (range_with_len 0 (target_count contests)) ++ Close r ∷ [] → IsRobustTree contests deck nodes
+  pub plain_tree : (r : Skipped) (nodes : List (Node ℕ Skipped))
+      → nodes ≡ map (λ u. Fork u 1) (range_with_len 0 (target_count contests)) ++ Close r ∷ []
+      → IsRobustTree contests deck nodes
   plain_tree r nodes e =
       let is : nodes ≡ preorder (chain r 0 (target_count contests)) = e ∙ sym (chain_nodes r (target_count contests) 0) in
       record {

@@ -14,8 +14,13 @@ use Rattle.evade_space.specs.Recounts.{AreVotes}
 use Rattle.evade_space.proofs.Counted.{may_is, must_is}
 use Rattle.evade_space.proofs.Pages.{common_is}
 
-pub right_votes : (sought : Sought) (sources : List (Option ℕ)) (u t c : ℕ) (sets : ContestSets) (column : List ℕ) (may must : ℕ) → AreGiven (target_count sought.contests) sources → u < target_count sought.contests → source_at sources u ≡ Some t → c ≡ contest_of sought.contests u
-    → AreContestSets sought sources c (empty_places sought.contests sources c) sets → IsSet 16 column (has_mark t) sought.deck → may ≡ common_ones column sets.within sets.pages → must ≡ common_ones column sets.sure sets.pages
+pub right_votes : (sought : Sought) (sources : List (Option ℕ)) (u t c : ℕ) (sets : ContestSets)
+    (column : List ℕ) (may must : ℕ) → AreGiven (target_count sought.contests) sources
+    → u < target_count sought.contests → source_at sources u ≡ Some t
+    → c ≡ contest_of sought.contests u
+    → AreContestSets sought sources c (empty_places sought.contests sources c) sets
+    → IsSet 16 column (has_mark t) sought.deck → may ≡ common_ones column sets.within sets.pages
+    → must ≡ common_ones column sets.sure sets.pages
     → AreVotes sought sources u may must
 right_votes sought sources u t c sets column may must are lu e own known sc a b =
     let inside : u < length sources = omega (arith, lu, are.long) in

@@ -11,7 +11,8 @@ use Rattle.evade_space.specs.Masks.{IsMarked}
 use Rattle.evade_space.specs.Recounts.{HasMarks, AreVotes, HasVotes}
 
 -- the marks of one contest
-pub marked_at : (sought : Sought) (s : PartialMisassignment) (c : ℕ) → HasMarks sought s → c < length sought.contests → IsMarked sought s c
+pub marked_at : (sought : Sought) (s : PartialMisassignment) (c : ℕ) → HasMarks sought s
+    → c < length sought.contests → IsMarked sought s c
 marked_at sought s c marks lt = record {
   contest = lt;
   row = omega (arith, lt, ap length marks.taken, length-map-range_with_len (taken_in sought.contests sought.deck s.sources) 0 (length sought.contests));
@@ -30,7 +31,8 @@ pub record Stepped (sought : Sought) (s now : PartialMisassignment) (u : ℕ) : 
   pub must : (w : ℕ) → w ≢ u → get_or now.counts.must w 0 ≡ get_or s.counts.must w 0
   pub other : (w : ℕ) → w ≢ u → HasVotes sought s w → HasVotes sought now w
 
-stepped : (sought : Sought) (s : PartialMisassignment) (u may must : ℕ) → HasMarks sought s → u < target_count sought.contests → AreVotes sought s.sources u may must
+stepped : (sought : Sought) (s : PartialMisassignment) (u may must : ℕ) → HasMarks sought s
+    → u < target_count sought.contests → AreVotes sought s.sources u may must
     → Stepped sought s (keeping s (record s.counts { may = set s.counts.may u may; must = set s.counts.must u must })) u
 stepped sought s u may must marks lu votes = record {
   marks = record {
@@ -56,6 +58,7 @@ stepped sought s u may must marks lu votes = record {
   };
 }
 
-pub vote_step : (sought : Sought) (s now : PartialMisassignment) (u may must : ℕ) → HasMarks sought s → u < target_count sought.contests → AreVotes sought s.sources u may must
+pub vote_step : (sought : Sought) (s now : PartialMisassignment) (u may must : ℕ)
+    → HasMarks sought s → u < target_count sought.contests → AreVotes sought s.sources u may must
     → now ≡ keeping s (record s.counts { may = set s.counts.may u may; must = set s.counts.must u must }) → Stepped sought s now u
 vote_step sought s now u may must marks lu votes e = subst (λ (x : PartialMisassignment). Stepped sought s x u) (sym e) (stepped sought s u may must marks lu votes)

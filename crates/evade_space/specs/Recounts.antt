@@ -24,14 +24,16 @@ pub record AreVotes (sought : Sought) (sources : List (Option ℕ)) (u may must 
 
 -- the kept votes for image u are right
 abbrev pub HasVotes : Sought → PartialMisassignment → ℕ → Type 0
-HasVotes sought s u = AreVotes sought s.sources u (get_or s.counts.may u 0) (get_or s.counts.must u 0)
+HasVotes sought s u =
+    AreVotes sought s.sources u (get_or s.counts.may u 0) (get_or s.counts.must u 0)
 
--- the kept votes are right for each image of another contest than `own` that has no empty place, and for
--- each that has no source
+-- the kept votes are right for each image of another contest than `own` that has no empty place,
+-- and for each that has no source
 abbrev pub HasVotesBeside : Sought → PartialMisassignment → ℕ → Type 0
 HasVotesBeside sought s own =
     (u : ℕ) → u < target_count sought.contests → contest_of sought.contests u ≢ own
-    → (empty_places sought.contests s.sources (contest_of sought.contests u) ≡ 0) ⊎ (source_at s.sources u ≡ None) → HasVotes sought s u
+    → (empty_places sought.contests s.sources (contest_of sought.contests u) ≡ 0)
+    ⊎ (source_at s.sources u ≡ None) → HasVotes sought s u
 
 -- the second state differs from the first in its votes alone
 pub record KeepsRest (s after : PartialMisassignment) : Type 0 where

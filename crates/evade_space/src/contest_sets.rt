@@ -9,8 +9,8 @@ use crate::{Evade, EvadeState};
 pub struct ContestSets {
     // How many words the sets have.
     pub pages: u16,
-    // The ballots with no more marks among the sources of the contest's images than its limit, those
-    // with fewer,
+    // The ballots with no more marks among the sources of the contest's images than its limit,
+    // those with fewer,
     pub within: [u64; 16],
     pub room: [u64; 16],
     // those that can't come to have more, and those that can't once an unused target that they mark

@@ -18,7 +18,8 @@ use std::alloc::{AllocError, Global};
 // How many targets of a set each ballot marks.
 fn count_row(alloc: Global, deck: &Deck, targets: &Row) -> Result<Vec<u16>, AllocError>
     requires { (t : ℕ) → deck.now.targets ≤ t → get_or targets.now t false ≡ false }
-    ensures { IfOk result (λ row. row.items ≡ map (λ ballot. common_count ballot targets.now) deck.now.ballots) }
+    ensures { IfOk result (λ row. row.items
+        ≡ map (λ ballot. common_count ballot targets.now) deck.now.ballots) }
 {
     let mut row = Vec::with_capacity(alloc, usize::from(deck.ballots()))?;
     for j in 0..deck.ballots() {
@@ -34,7 +35,9 @@ fn count_taken(
     sources: &[Option<u16>],
 ) -> Result<Vec<Vec<u16>>, AllocError>
     requires { AreGiven (target_count space.now.contests) sources.now }
-    ensures { IfOk result (λ rows. map (λ row. row.items) rows.items ≡ map (taken_in space.now.contests space.now.deck sources.now) (range_with_len 0 (length space.now.contests))) }
+    ensures { IfOk result (λ rows. map (λ row. row.items) rows.items
+        ≡ map (taken_in space.now.contests space.now.deck sources.now)
+        (range_with_len 0 (length space.now.contests))) }
 {
     let contests = space.shape.contests();
     let mut rows = Vec::with_capacity(alloc, usize::from(contests))?;
@@ -77,7 +80,8 @@ pub fn count_all(
     sources: &[Option<u16>],
 ) -> Result<KeptCounts, AllocError>
     requires { AreGiven (target_count space.now.contests) sources.now }
-    ensures { IfOk result (λ counts. counts ≡ counts_of space.now.contests space.now.deck sources.now) }
+    ensures { IfOk result (λ counts. counts
+        ≡ counts_of space.now.contests space.now.deck sources.now) }
 {
     let taken = count_taken(alloc, space, sources)?;
     let free = count_row(alloc, &space.deck, &unused_targets(sources))?;

@@ -29,7 +29,13 @@ impl Model for KeptCounts {
 
     ghost Value = { Counts };
 
-    ghost view = { λ a. record { taken = map (λ row. row.items) a.taken.items; free = a.free.items; may = a.may.items; must = a.must.items; lost = a.lost } };
+    ghost view = { λ a. record {
+      taken = map (λ row. row.items) a.taken.items;
+      free = a.free.items;
+      may = a.may.items;
+      must = a.must.items;
+      lost = a.lost;
+    } };
 }
 
 impl KeptCounts {
@@ -75,18 +81,21 @@ impl KeptCounts {
     pub(crate) fn set_votes(&mut self, u: u16, may: u32, must: u32)
         requires may { u < length self.old.may }
         requires must { u < length self.old.must }
-        ensures { self.new ≡ record self.old { may = slice_set self.old.may u may; must = slice_set self.old.must u must } }
+        ensures { self.new ≡ record self.old
+            { may = slice_set self.old.may u may; must = slice_set self.old.must u must } }
     {
         self.may[u as usize] = may;
         self.must[u as usize] = must;
     }
 
-    // Counts the marks anew where image `u`, which has no source, is to get the source `t`: they were
-    // marks of an unused target, and now they are taken. The votes stay.
+    // Counts the marks anew where image `u`, which has no source, is to get the source `t`: they
+    // were marks of an unused target, and now they are taken. The votes stay.
     pub(crate) fn take_marks(&mut self, space: &Evade, sources: &[Option<u16>], u: u16, t: u16)
         requires giving { IsGiving space.now sources.now u t }
         requires kept { self.old ≡ counts_of space.now.contests space.now.deck sources.now }
-        ensures { self.new ≡ record (counts_of space.now.contests space.now.deck (with_source sources.now u t)) { may = self.old.may; must = self.old.must } }
+        ensures { self.new
+            ≡ record (counts_of space.now.contests space.now.deck (with_source sources.now u t))
+            { may = self.old.may; must = self.old.must } }
     {
         let row = &mut self.taken[space.contest_of(u) as usize];
         self.lost = take_row(space, sources, u, t, &mut self.free, row, self.lost);
@@ -95,16 +104,18 @@ impl KeptCounts {
     // Counts the marks anew where image `u`, which had the source `t`, has none.
     pub(crate) fn free_marks(&mut self, space: &Evade, sources: &[Option<u16>], u: u16, t: u16)
         requires giving { IsGiving space.now sources.now u t }
-        requires kept { self.old ≡ counts_of space.now.contests space.now.deck (with_source sources.now u t) }
-        ensures { self.new ≡ record (counts_of space.now.contests space.now.deck sources.now) { may = self.old.may; must = self.old.must } }
+        requires kept { self.old ≡ counts_of space.now.contests space.now.deck
+            (with_source sources.now u t) }
+        ensures { self.new ≡ record (counts_of space.now.contests space.now.deck sources.now)
+            { may = self.old.may; must = self.old.must } }
     {
         let row = &mut self.taken[space.contest_of(u) as usize];
         self.lost = free_row(space, sources, u, t, &mut self.free, row, self.lost);
     }
 }
 
-// Moves the marks of target `t`, which image `u` is to get, from the unused ones to those of the image's
-// contest, and gives how many marks are lost then.
+// Moves the marks of target `t`, which image `u` is to get, from the unused ones to those of the
+// image's contest, and gives how many marks are lost then.
 fn take_row(
     space: &Evade,
     sources: &[Option<u16>],
@@ -116,10 +127,12 @@ fn take_row(
 ) -> u32
     requires giving { IsGiving space.now sources.now u t }
     requires free { free.old.items ≡ free_in space.now.deck sources.now }
-    requires row { row.old.items ≡ taken_in space.now.contests space.now.deck sources.now (contest_of space.now.contests u) }
+    requires row { row.old.items ≡ taken_in space.now.contests space.now.deck sources.now
+        (contest_of space.now.contests u) }
     requires kept { kept ≡ lost space.now.contests space.now.deck sources.now }
     ensures free { free.new.items ≡ free_in space.now.deck (with_source sources.now u t) }
-    ensures row { row.new.items ≡ taken_in space.now.contests space.now.deck (with_source sources.now u t) (contest_of space.now.contests u) }
+    ensures row { row.new.items ≡ taken_in space.now.contests space.now.deck
+        (with_source sources.now u t) (contest_of space.now.contests u) }
     ensures lost { result ≡ lost space.now.contests space.now.deck (with_source sources.now u t) }
 {
     let limit = space.limit_of(space.contest_of(u));
@@ -142,10 +155,12 @@ fn free_row(
 ) -> u32
     requires giving { IsGiving space.now sources.now u t }
     requires free { free.old.items ≡ free_in space.now.deck (with_source sources.now u t) }
-    requires row { row.old.items ≡ taken_in space.now.contests space.now.deck (with_source sources.now u t) (contest_of space.now.contests u) }
+    requires row { row.old.items ≡ taken_in space.now.contests space.now.deck
+        (with_source sources.now u t) (contest_of space.now.contests u) }
     requires kept { kept ≡ lost space.now.contests space.now.deck (with_source sources.now u t) }
     ensures free { free.new.items ≡ free_in space.now.deck sources.now }
-    ensures row { row.new.items ≡ taken_in space.now.contests space.now.deck sources.now (contest_of space.now.contests u) }
+    ensures row { row.new.items ≡ taken_in space.now.contests space.now.deck sources.now
+        (contest_of space.now.contests u) }
     ensures lost { result ≡ lost space.now.contests space.now.deck sources.now }
 {
     let limit = space.limit_of(space.contest_of(u));
@@ -183,10 +198,15 @@ fn move_marks(space: &Evade, t: u16, from: &mut Vec<u16>, to: &mut Vec<u16>)
     requires target { t < target_count space.now.contests }
     requires from_long { length from.old.items ≡ length space.now.deck }
     requires to_long { length to.old.items ≡ length space.now.deck }
-    requires some { (j : ℕ) → j < length space.now.deck → has_mark t (get_or space.now.deck j []) ≡ true → 1 ≤ get_or from.old.items j 0 }
+    requires some { (j : ℕ) → j < length space.now.deck
+        → has_mark t (get_or space.now.deck j []) ≡ true → 1 ≤ get_or from.old.items j 0 }
     requires few { (j : ℕ) → j < length space.now.deck → get_or to.old.items j 0 ≤ 1024 }
-    ensures fewer { (j : ℕ) → j < length space.now.deck → get_or from.new.items j 0 + cond (has_mark t (get_or space.now.deck j [])) 1 0 ≡ get_or from.old.items j 0 }
-    ensures more { (j : ℕ) → j < length space.now.deck → get_or to.new.items j 0 ≡ get_or to.old.items j 0 + cond (has_mark t (get_or space.now.deck j [])) 1 0 }
+    ensures fewer { (j : ℕ) → j < length space.now.deck
+        → get_or from.new.items j 0 + cond (has_mark t (get_or space.now.deck j [])) 1 0
+        ≡ get_or from.old.items j 0 }
+    ensures more { (j : ℕ) → j < length space.now.deck
+        → get_or to.new.items j 0
+        ≡ get_or to.old.items j 0 + cond (has_mark t (get_or space.now.deck j [])) 1 0 }
     ensures from_long { length from.new.items ≡ length space.now.deck }
     ensures to_long { length to.new.items ≡ length space.now.deck }
 {

@@ -26,7 +26,8 @@ fn votes_for(space: &Evade, state: &EvadeState, sets: &ContestSets, c: u16, u: u
     requires marks { HasMarks space.now state.now }
     requires image { u < target_count space.now.contests }
     requires contest { c ≡ contest_of space.now.contests u }
-    requires sets { AreContestSets space.now state.now.sources c (empty_places space.now.contests state.now.sources c) sets.now }
+    requires sets { AreContestSets space.now state.now.sources c
+        (empty_places space.now.contests state.now.sources c) sets.now }
     ensures { AreVotes space.now state.now.sources u result.may result.must }
 {
     match state.source(u) {
@@ -48,8 +49,11 @@ impl EvadeState {
         requires contest { c < length space.now.contests }
         ensures marks { HasMarks space.now self.new }
         ensures rest { KeepsRest self.old self.new }
-        ensures here { (u : ℕ) → first_target space.now.contests c ≤ u → u < first_target space.now.contests (c + 1) → HasVotes space.now self.new u }
-        ensures elsewhere { (u : ℕ) → (u < first_target space.now.contests c) ⊎ (first_target space.now.contests (c + 1) ≤ u) → HasVotes space.now self.old u → HasVotes space.now self.new u }
+        ensures here { (u : ℕ) → first_target space.now.contests c ≤ u
+            → u < first_target space.now.contests (c + 1) → HasVotes space.now self.new u }
+        ensures elsewhere { (u : ℕ) → (u < first_target space.now.contests c)
+            ⊎ (first_target space.now.contests (c + 1) ≤ u) → HasVotes space.now self.old u
+            → HasVotes space.now self.new u }
     {
         let places = empty_places(&space.shape, self.sources(), c);
         let sets = ContestSets::new(space, self, c, places);
@@ -59,16 +63,19 @@ impl EvadeState {
         }
     }
 
-    // Counts the votes for the images of contest `c` anew where they may have changed: a source of contest
-    // `own` came or went.
+    // Counts the votes for the images of contest `c` anew where they may have changed: a source of
+    // contest `own` came or went.
     fn recount_changed(&mut self, space: &Evade, own: u16, c: u16)
         requires marks { HasMarks space.now self.old }
         requires contest { c < length space.now.contests }
         requires beside { HasVotesBeside space.now self.old own }
         ensures marks { HasMarks space.now self.new }
         ensures rest { KeepsRest self.old self.new }
-        ensures here { (u : ℕ) → first_target space.now.contests c ≤ u → u < first_target space.now.contests (c + 1) → HasVotes space.now self.new u }
-        ensures elsewhere { (u : ℕ) → (u < first_target space.now.contests c) ⊎ (first_target space.now.contests (c + 1) ≤ u) → HasVotes space.now self.old u → HasVotes space.now self.new u }
+        ensures here { (u : ℕ) → first_target space.now.contests c ≤ u
+            → u < first_target space.now.contests (c + 1) → HasVotes space.now self.new u }
+        ensures elsewhere { (u : ℕ) → (u < first_target space.now.contests c)
+            ⊎ (first_target space.now.contests (c + 1) ≤ u) → HasVotes space.now self.old u
+            → HasVotes space.now self.new u }
     {
         if c == own {
             self.recount_contest(space, c);
@@ -79,12 +86,14 @@ impl EvadeState {
         }
     }
 
-    // Counts the votes anew where a source of contest `own` came or went: those for its own images, and
-    // those for images of contests that have an empty place, since the unused targets are others now.
+    // Counts the votes anew where a source of contest `own` came or went: those for its own images,
+    // and those for images of contests that have an empty place, since the unused targets are
+    // others now.
     pub(crate) fn recount_votes(&mut self, space: &Evade, own: u16)
         requires marks { HasMarks space.now self.old }
         requires beside { HasVotesBeside space.now self.old own }
-        ensures { self.new ≡ keeping self.old (counts_of space.now.contests space.now.deck self.old.sources) }
+        ensures { self.new ≡ keeping self.old
+            (counts_of space.now.contests space.now.deck self.old.sources) }
     {
         for c in 0..space.shape.contests() {
             self.recount_changed(space, own, c);

@@ -9,8 +9,8 @@ use std::alloc::{AllocError, Global};
 use std::test::Fail;
 use tree_core::Space;
 
-// How many steps and undos a walk made, and after how many of them the kept counts were the counts taken
-// anew.
+// How many steps and undos a walk made, and after how many of them the kept counts were the counts
+// taken anew.
 #[derive(Clone, Copy)]
 struct Walked {
     made: u32,
@@ -41,8 +41,8 @@ fn is_right(alloc: Global, space: &Evade, state: &EvadeState) -> Result<bool, Al
     Ok(marks && kept.may == anew.may && kept.must == anew.must)
 }
 
-// The first image without a source, counted from image 0, 2, 4, .. on and then from the odd ones, so that
-// contests stay open.
+// The first image without a source, counted from image 0, 2, 4, .. on and then from the odd ones,
+// so that contests stay open.
 fn next_image(state: &EvadeState) -> u16 {
     for u in 0..state.images() {
         if u % 2 == 0 && state.is_free(u) {
@@ -87,8 +87,8 @@ fn walk(
     Ok(walked)
 }
 
-// Full and blank ballots let every misassignment pass, so the walk goes through all of them: 325 steps and as
-// many undos over two contests, in an order of images that leaves both open.
+// Full and blank ballots let every misassignment pass, so the walk goes through all of them: 325
+// steps and as many undos over two contests, in an order of images that leaves both open.
 #[test]
 fn kept_counts_are_counts_taken_anew(rt: HostRuntime) -> Result<(), Fail> {
     let alloc = rt.alloc();

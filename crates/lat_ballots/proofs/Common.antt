@@ -18,7 +18,8 @@ use Rattle.lat_ballots.proofs.OneBit.{get_or-bits_of, length-bits_of}
 use Rattle.lat_ballots.proofs.Slices.{as_bit}
 
 -- a number of 64 bits has as many ones as places whose bit is 1
-word_ones : (x : ℕ) → x < 2 ^ 64 → count_ones x ≡ count_by (λ k. nat_eq (bit_at x k) 1) (range_with_len 0 64)
+word_ones : (x : ℕ) → x < 2 ^ 64
+    → count_ones x ≡ count_by (λ k. nat_eq (bit_at x k) 1) (range_with_len 0 64)
 word_ones x lt =
     let bits : List Bool = map (λ k. nat_eq (bit_at x k) 1) (range_with_len 0 64) in
     let same : x ≡ mask_l (map (λ k. nat_eq (bit_at x k) 1) (range_with_len 0 64)) =
@@ -30,7 +31,9 @@ word_ones x lt =
     ap count_ones same ∙ ones-mask_l (λ k. nat_eq (bit_at x k) 1) (range_with_len 0 64)
 
 -- a range is a first part and what follows it
-range_parts : (p : ℕ → Bool) (m n : ℕ) → count_by p (range_with_len 0 (m + n)) ≡ count_by p (range_with_len 0 m) + count_by (λ k. p (m + k)) (range_with_len 0 n)
+range_parts : (p : ℕ → Bool) (m n : ℕ)
+    → count_by p (range_with_len 0 (m + n))
+    ≡ count_by p (range_with_len 0 m) + count_by (λ k. p (m + k)) (range_with_len 0 n)
 range_parts p m zero =
     let none : count_by (λ k. p (m + k)) (range_with_len 0 zero) ≡ 0 = refl in
     let same : m + zero ≡ m = omega arith in
@@ -65,7 +68,9 @@ word_few w v lt =
 
 -- one more word of each row
 pub word_more : (words others : List ℕ) (i : ℕ) → i < 4 → get_or words i 0 < 2 ^ 64
-    → common_below words others (64 * (i + 1)) ≡ common_below words others (64 * i) + count_ones (bit_and (get_or words i 0) (get_or others i 0))
+    → common_below words others (64 * (i + 1))
+    ≡ common_below words others (64 * i) + count_ones
+    (bit_and (get_or words i 0) (get_or others i 0))
 word_more words others i lt fits =
     let small = both_small (get_or words i 0) (get_or others i 0) fits in
     let w : ℕ = get_or words i 0 in
@@ -84,11 +89,13 @@ word_more words others i lt fits =
     ∙ ap (λ (n : ℕ). count_by both (range_with_len 0 (64 * i)) + n) (each ∙ sym (word_ones (bit_and w v) small))
 
 -- after the last word those are all
-pub word_last : (words others : List ℕ) (i : ℕ) → i ≡ 4 → common_below words others (64 * i) ≡ common_count (bits_of words) (bits_of others)
+pub word_last : (words others : List ℕ) (i : ℕ) → i ≡ 4
+    → common_below words others (64 * i) ≡ common_count (bits_of words) (bits_of others)
 word_last words others i e = let all : 64 * i ≡ length (bits_of words) = omega (arith, length-bits_of words) in ap (common_below words others) all
 
 -- where the other row has nothing past n, the common part is that of the first n places
-pub common_within : (row other : List Bool) (n : ℕ) → n ≤ length row → ((t : ℕ) → n ≤ t → get_or other t false ≡ false)
+pub common_within : (row other : List Bool) (n : ℕ) → n ≤ length row
+    → ((t : ℕ) → n ≤ t → get_or other t false ≡ false)
     → common_count row other ≡ common_count (take n row) other
 common_within row other n le none =
     let both = is_common row other in
@@ -104,7 +111,8 @@ pub common_few : (row other : List Bool) → common_count row other ≤ length r
 common_few row other = omega (arith, count_by-le-length (is_common row other) (range_with_len 0 (length row)), length-range_with_len 0 (length row))
 
 -- a ballot is the front of its row
-pub common_ballot : (targets : ℕ) (rows : List (List Bool)) (j : ℕ) (row other ballot : List Bool) → AreRows targets rows → j < length rows → row ≡ get_or rows j row
+pub common_ballot : (targets : ℕ) (rows : List (List Bool)) (j : ℕ) (row other ballot : List Bool)
+    → AreRows targets rows → j < length rows → row ≡ get_or rows j row
     → take targets row ≡ ballot → ((t : ℕ) → targets ≤ t → get_or other t false ≡ false)
     → (common_count row other ≡ common_count ballot other) × (common_count row other ≤ targets)
 common_ballot targets rows j row other ballot are lt is front none =

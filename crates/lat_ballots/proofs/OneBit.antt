@@ -11,7 +11,8 @@ use Rattle.lat_ballots.specs.Row.{is_set, bits_of}
 pub length-bits_of : (words : List ℕ) → length (bits_of words) ≡ 256
 length-bits_of words = length-map-range_with_len (is_set words) 0 256
 
-pub get_or-bits_of : (words : List ℕ) (t : ℕ) → t < 256 → get_or (bits_of words) t false ≡ is_set words t
+pub get_or-bits_of : (words : List ℕ) (t : ℕ) → t < 256
+    → get_or (bits_of words) t false ≡ is_set words t
 get_or-bits_of words t h = get_or-map-range_with_len (is_set words) 0 256 t t false h (omega arith)
 
 -- the test `(word >> place) & 1` reads a bit
@@ -24,7 +25,8 @@ bit_read words t q h e =
 
 -- another bit of the same word, or a bit of another word, is as it was
 is_set-set_other : (words : List ℕ) (t q w i : ℕ) → q ≡ t / 64 → q < length words → i ≢ t
-    → ((k : ℕ) → k < 64 → k ≢ t % 64 → bit_at w k ≡ bit_at (get_or words q 0) k) → is_set (set words q w) i ≡ is_set words i
+    → ((k : ℕ) → k < 64 → k ≢ t % 64 → bit_at w k ≡ bit_at (get_or words q 0) k)
+    → is_set (set words q w) i ≡ is_set words i
 is_set-set_other words t q w i e within other same = elim (cases_eq (i / 64) q) [
   | inl here ↦
       ap (λ p. nat_eq (bit_at (get_or (set words q w) p 0) (i % 64)) 1) here
@@ -35,8 +37,10 @@ is_set-set_other words t q w i e within other same = elim (cases_eq (i / 64) q) 
 ]
 
 -- a word with one bit changed is a row with one bit changed
-pub bits_of-set : (words : List ℕ) (t q w : ℕ) (on : Bool) → t < 256 → q ≡ t / 64 → q < length words → nat_eq (bit_at w (t % 64)) 1 ≡ on
-    → ((k : ℕ) → k < 64 → k ≢ t % 64 → bit_at w k ≡ bit_at (get_or words q 0) k) → bits_of (set words q w) ≡ set (bits_of words) t on
+pub bits_of-set : (words : List ℕ) (t q w : ℕ) (on : Bool) → t < 256 → q ≡ t / 64 → q < length words
+    → nat_eq (bit_at w (t % 64)) 1 ≡ on
+    → ((k : ℕ) → k < 64 → k ≢ t % 64 → bit_at w k ≡ bit_at (get_or words q 0) k)
+    → bits_of (set words q w) ≡ set (bits_of words) t on
 bits_of-set words t q w on h e within is same =
     let long : length (bits_of (set words q w)) ≡ 256 = length-bits_of (set words q w) in
     ext_get_or false (bits_of (set words q w)) (set (bits_of words) t on)
@@ -53,8 +57,10 @@ bits_of-set words t q w on h e within is same =
     ]))
 
 -- setting a bit marks its target
-pub bits_of-or : (words : List ℕ) (t q : ℕ) (on : Bool) → t < 256 → q ≡ t / 64 → q < length words → on ≡ true
-    → bits_of (set words q (bit_or (get_or words q 0) (1 * 2 ^ (t % 64) % 2 ^ 64))) ≡ set (bits_of words) t on
+pub bits_of-or : (words : List ℕ) (t q : ℕ) (on : Bool) → t < 256 → q ≡ t / 64 → q < length words
+    → on ≡ true
+    → bits_of (set words q (bit_or (get_or words q 0) (1 * 2 ^ (t % 64) % 2 ^ 64)))
+    ≡ set (bits_of words) t on
 bits_of-or words t q on h e within is =
     let x = get_or words q 0 in
     let place : t % 64 < 64 = omega arith in
@@ -63,8 +69,10 @@ bits_of-or words t q on h e within is =
     (λ k low other. bit_at_set_other w64 x (t % 64) place k other)
 
 -- clearing a bit takes its mark away
-pub bits_of-and : (words : List ℕ) (t q : ℕ) (on : Bool) → t < 256 → q ≡ t / 64 → q < length words → on ≡ false
-    → bits_of (set words q (bit_and (get_or words q 0) (2 ^ 64 - 1 - 1 * 2 ^ (t % 64) % 2 ^ 64))) ≡ set (bits_of words) t on
+pub bits_of-and : (words : List ℕ) (t q : ℕ) (on : Bool) → t < 256 → q ≡ t / 64 → q < length words
+    → on ≡ false
+    → bits_of (set words q (bit_and (get_or words q 0) (2 ^ 64 - 1 - 1 * 2 ^ (t % 64) % 2 ^ 64)))
+    ≡ set (bits_of words) t on
 bits_of-and words t q on h e within is =
     let x = get_or words q 0 in
     let place : t % 64 < 64 = omega arith in

@@ -18,28 +18,35 @@ use Rattle.lemmas.proofs.Ranges.{range_more}
 -- what stands in the rows when the ballots of the first n targets are there
 pub record AreBuilt (targets : ℕ) (rules : RuleSet) (n : ℕ) (rows : List (List Bool)) : Type 0 where
   pub long : All (λ row. length row ≡ 256) rows
-  pub are : map (take targets) rows ≡ replicate rules.over (replicate targets true) ++ flat_map (only_ballots targets rules) (range_with_len 0 n)
+  pub are : map (take targets) rows ≡ replicate rules.over (replicate targets true)
+      ++ flat_map (only_ballots targets rules) (range_with_len 0 n)
 
 -- copies of a row put at the end
-copies : (targets : ℕ) (rows : List (List Bool)) (n : ℕ) (row : List Bool) → map (take targets) (rows ++ replicate n row) ≡ map (take targets) rows ++ replicate n (take targets row)
+copies : (targets : ℕ) (rows : List (List Bool)) (n : ℕ) (row : List Bool)
+    → map (take targets) (rows ++ replicate n row) ≡ map (take targets) rows
+    ++ replicate n (take targets row)
 copies targets rows n row =
     map-append (take targets) rows (replicate n row) ∙ ap (λ (r : List (List Bool)). map (take targets) rows ++ r) (map-replicate (take targets) n row)
 
-first_long : (targets : ℕ) → targets ≤ 256 → length (replicate targets true ++ replicate (256 - targets) false) ≡ 256
+first_long : (targets : ℕ) → targets ≤ 256
+    → length (replicate targets true ++ replicate (256 - targets) false) ≡ 256
 first_long targets few = omega (arith, length-append (replicate targets true) (replicate (256 - targets) false), length-replicate targets true, length-replicate (256 - targets) false)
 
-first_taken : (targets : ℕ) → take targets (replicate targets true ++ replicate (256 - targets) false) ≡ replicate targets true
+first_taken : (targets : ℕ) → take targets
+    (replicate targets true ++ replicate (256 - targets) false) ≡ replicate targets true
 first_taken targets =
     ap (λ (n : ℕ). take n (replicate targets true ++ replicate (256 - targets) false)) (sym (length-replicate targets true)) ∙ take-append_seam (replicate targets true) (replicate (256 - targets) false)
 
 only_long : (t : ℕ) → length (only 256 t) ≡ 256
 only_long t = length-set (replicate 256 false) t true ∙ length-replicate 256 false
 
-only_taken : (targets t : ℕ) → targets ≤ 256 → t < targets → take targets (only 256 t) ≡ only targets t
+only_taken : (targets t : ℕ) → targets ≤ 256 → t < targets
+    → take targets (only 256 t) ≡ only targets t
 only_taken targets t few lt = take-set-lt targets (replicate 256 false) t true lt ∙ ap (λ (b : List Bool). set b t true) (take-replicate targets 256 false few)
 
 -- the wholly marked ballots come first
-pub built_first : (targets n k : ℕ) (rules : RuleSet) (before new : List (List Bool)) (row : List Bool) → n ≤ 256 → n ≡ targets → row ≡ replicate n true ++ replicate (256 - n) false
+pub built_first : (targets n k : ℕ) (rules : RuleSet) (before new : List (List Bool))
+    (row : List Bool) → n ≤ 256 → n ≡ targets → row ≡ replicate n true ++ replicate (256 - n) false
     → before ≡ [] → k ≡ rules.over → new ≡ before ++ replicate k row → AreBuilt targets rules 0 new
 built_first targets n k rules before new row few e is none count whole =
     let all : new ≡ [] ++ replicate rules.over row = whole ∙ (λ i. none i ++ replicate (count i) row) in
@@ -51,8 +58,10 @@ built_first targets n k rules before new row few e is none count whole =
     }
 
 -- then those of one more target
-pub built_more : (targets : ℕ) (rules : RuleSet) (t n : ℕ) (rows new : List (List Bool)) (row : List Bool) → targets ≤ 256 → t < targets → AreBuilt targets rules t rows
-    → row ≡ only 256 t → n ≡ t + 1 + (rules.least - 1) → new ≡ rows ++ replicate n row → AreBuilt targets rules (t + 1) new
+pub built_more : (targets : ℕ) (rules : RuleSet) (t n : ℕ) (rows new : List (List Bool))
+    (row : List Bool) → targets ≤ 256 → t < targets → AreBuilt targets rules t rows
+    → row ≡ only 256 t → n ≡ t + 1 + (rules.least - 1) → new ≡ rows ++ replicate n row
+    → AreBuilt targets rules (t + 1) new
 built_more targets rules t n rows new row few lt built is count all =
     let there = replicate rules.over (replicate targets true) in
     let before = flat_map (only_ballots targets rules) (range_with_len 0 t) in
@@ -78,7 +87,8 @@ triangle_more n =
 
 -- the numbers of ballots of the first n targets, twice
 twice_sum : (targets : ℕ) (rules : RuleSet) (n : ℕ)
-    → 2 * sum_by (λ t. length (only_ballots targets rules t)) (range_with_len 0 n) ≡ n * (n + 1) + 2 * (n * (rules.least - 1))
+    → 2 * sum_by (λ t. length (only_ballots targets rules t)) (range_with_len 0 n)
+    ≡ n * (n + 1) + 2 * (n * (rules.least - 1))
 twice_sum targets rules zero = omega arith
 twice_sum targets rules (suc n) =
     let count = λ (t : ℕ). length (only_ballots targets rules t) in
@@ -89,7 +99,8 @@ twice_sum targets rules (suc n) =
     omega (arith, sum, last, here, twice_sum targets rules n, triangle_more n, product_more n (rules.least - 1))
 
 -- so many ballots are there in the end
-pub plain_long : (targets : ℕ) (rules : RuleSet) → length (plain_ballots targets rules).ballots ≡ plain_size targets rules
+pub plain_long : (targets : ℕ) (rules : RuleSet)
+    → length (plain_ballots targets rules).ballots ≡ plain_size targets rules
 plain_long targets rules =
     let full = replicate rules.over (replicate targets true) in
     let each = flat_map (only_ballots targets rules) (range_with_len 0 targets) in
@@ -105,8 +116,10 @@ plain_long targets rules =
     )
 
 -- and last the blank ones
-built_deck : (targets : ℕ) (rules : RuleSet) (rows new : List (List Bool)) (row : List Bool) → targets ≤ 256 → AreBuilt targets rules targets rows
-    → row ≡ replicate 256 false → new ≡ rows ++ replicate rules.blank row → ballots_of targets new ≡ plain_ballots targets rules
+built_deck : (targets : ℕ) (rules : RuleSet) (rows new : List (List Bool)) (row : List Bool)
+    → targets ≤ 256 → AreBuilt targets rules targets rows
+    → row ≡ replicate 256 false → new ≡ rows ++ replicate rules.blank row
+    → ballots_of targets new ≡ plain_ballots targets rules
 built_deck targets rules rows new row few built is all =
     let full = replicate rules.over (replicate targets true) in
     let each = flat_map (only_ballots targets rules) (range_with_len 0 targets) in
@@ -115,8 +128,11 @@ built_deck targets rules rows new row few built is all =
     ∙ ap (λ (r : List (List Bool)). r ++ replicate rules.blank (take targets row)) built.are
     ∙ ap (λ (b : List Bool). (full ++ each) ++ replicate rules.blank b) (ap (take targets) is ∙ take-replicate targets 256 false few))
 
-pub built_rows : (targets n t k : ℕ) (rules : RuleSet) (rows new : List (List Bool)) (row : List Bool) → targets ≤ 256 → n ≡ targets → t ≡ targets → AreBuilt targets rules t rows
-    → row ≡ replicate 256 false → k ≡ rules.blank → new ≡ rows ++ replicate k row → plain_size targets rules ≤ 1024 → AreRows n new × (ballots_of n new ≡ plain_ballots targets rules)
+pub built_rows : (targets n t k : ℕ) (rules : RuleSet) (rows new : List (List Bool))
+    (row : List Bool) → targets ≤ 256 → n ≡ targets → t ≡ targets → AreBuilt targets rules t rows
+    → row ≡ replicate 256 false → k ≡ rules.blank → new ≡ rows ++ replicate k row
+    → plain_size targets rules ≤ 1024
+    → AreRows n new × (ballots_of n new ≡ plain_ballots targets rules)
 built_rows targets n t k rules rows new row few e end built is count whole fits =
     let all : new ≡ rows ++ replicate rules.blank row = whole ∙ ap (λ (m : ℕ). rows ++ replicate m row) count in
     let done = subst (λ (m : ℕ). AreBuilt targets rules m rows) end built in
@@ -132,7 +148,8 @@ built_rows targets n t k rules rows new row few e end built is count whole fits 
     )
 
 -- each ballot has a mark or none for each target
-pub plain_fits : (targets : ℕ) (rules : RuleSet) → All (λ (b : List Bool). length b ≡ targets) (plain_ballots targets rules).ballots
+pub plain_fits : (targets : ℕ) (rules : RuleSet)
+    → All (λ (b : List Bool). length b ≡ targets) (plain_ballots targets rules).ballots
 plain_fits targets rules =
     All-append (λ (b : List Bool). length b ≡ targets) (replicate rules.over (replicate targets true) ++ flat_map (only_ballots targets rules) (range_with_len 0 targets)) (replicate rules.blank (replicate targets false))
     (All-append (λ (b : List Bool). length b ≡ targets) (replicate rules.over (replicate targets true)) (flat_map (only_ballots targets rules) (range_with_len 0 targets))
@@ -142,7 +159,8 @@ plain_fits targets rules =
     All-nil : All (λ (b : List Bool). length b ≡ targets) []
     All-nil i d lt = absurd (omega arith)
 
-    runs : (ts : List ℕ) → All (λ (b : List Bool). length b ≡ targets) (flat_map (only_ballots targets rules) ts)
+    runs : (ts : List ℕ) → All (λ (b : List Bool). length b ≡ targets)
+        (flat_map (only_ballots targets rules) ts)
     runs [] = All-nil
     runs (t ∷ ts) =
         All-append (λ (b : List Bool). length b ≡ targets) (only_ballots targets rules t) (flat_map (only_ballots targets rules) ts)

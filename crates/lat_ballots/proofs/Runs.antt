@@ -7,7 +7,9 @@ pub replicate_more : {A : Type 0} (n : ℕ) (x : A) → replicate n x ++ x ∷ [
 replicate_more n x = replicate-append-replicate n 1 x
 
 -- with the bit after the run set, the run is one longer
-pub run_more : (n t : ℕ) → t < n → set (replicate t true ++ replicate (n - t) false) t true ≡ replicate (t + 1) true ++ replicate (n - (t + 1)) false
+pub run_more : (n t : ℕ) → t < n
+    → set (replicate t true ++ replicate (n - t) false) t true ≡ replicate (t + 1) true
+    ++ replicate (n - (t + 1)) false
 run_more n t lt =
     let rest : n - t ≡ suc (n - (t + 1)) = omega arith in
     ap (λ (m : ℕ). set (replicate t true ++ replicate m false) t true) rest

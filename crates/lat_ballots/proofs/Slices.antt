@@ -22,7 +22,8 @@ bit_at_shift x s i =
 
 -- a bit of two words joined
 bit_at_joined : (words : List ℕ) (q i : ℕ) → get_or words q 0 < 2 ^ 64 → i < 128
-    → bit_at (get_or words (q + 1) 0 * 2 ^ 64 + get_or words q 0) i ≡ bit_at (get_or words ((64 * q + i) / 64) 0) ((64 * q + i) % 64)
+    → bit_at (get_or words (q + 1) 0 * 2 ^ 64 + get_or words q 0) i
+    ≡ bit_at (get_or words ((64 * q + i) / 64) 0) ((64 * q + i) % 64)
 bit_at_joined words q i low lt = elim (cases_lt i 64) [
   | inl here ↦
       let word : (64 * q + i) / 64 ≡ q = omega arith in
@@ -39,7 +40,8 @@ as_bit b lt = grind (arith, nat_tests)
 
 -- bit i of the slice is bit first + i of the row
 bit_at_slice : (words : List ℕ) (first last i : ℕ) → first + i < 256 → i < last - first
-    → bit_at (mask_l (slice_range (bits_of words) first last)) i ≡ bit_at (get_or words ((first + i) / 64) 0) ((first + i) % 64)
+    → bit_at (mask_l (slice_range (bits_of words) first last)) i
+    ≡ bit_at (get_or words ((first + i) / 64) 0) ((first + i) % 64)
 bit_at_slice words first last i lt inside =
     bit_mask_l (slice_range (bits_of words) first last) i
     ∙ ap {B = ℕ} (λ (b : Bool). cond b 1 0) (get_or-take (last - first) (drop first (bits_of words)) i false inside ∙ get_or-drop first (bits_of words) i false ∙ get_or-bits_of words (first + i) lt)
@@ -48,13 +50,16 @@ bit_at_slice words first last i lt inside =
 below_one : (b m : ℕ) → b < 2 → m ≡ 1 → min b m ≡ b
 below_one b m lt e = grind arith
 
-slice_long : (words : List ℕ) (first last : ℕ) → last ≤ 256 → first ≤ last → length (slice_range (bits_of words) first last) ≡ last - first
+slice_long : (words : List ℕ) (first last : ℕ) → last ≤ 256 → first ≤ last
+    → length (slice_range (bits_of words) first last) ≡ last - first
 slice_long words first last within le = length-take-le (last - first) (drop first (bits_of words)) (omega (arith, length-drop first (bits_of words), length-bits_of words))
 
 -- the shifted and masked words are the bits of the slice
-pub slice_bits : (words : List ℕ) (first last q s joined : ℕ) → first < last → last - first ≤ 64 → last ≤ 256 → q ≡ first / 64 → s ≡ first % 64
+pub slice_bits : (words : List ℕ) (first last q s joined : ℕ) → first < last → last - first ≤ 64
+    → last ≤ 256 → q ≡ first / 64 → s ≡ first % 64
     → joined ≡ get_or words (q + 1) 0 * 2 ^ 64 + get_or words q 0 → get_or words q 0 < 2 ^ 64
-    → bit_and (joined / 2 ^ s) (2 ^ (last - first) - 1) ≡ mask_l (slice_range (bits_of words) first last)
+    → bit_and (joined / 2 ^ s) (2 ^ (last - first) - 1)
+    ≡ mask_l (slice_range (bits_of words) first last)
 slice_bits words first last q s joined some few within word place is low =
     let n = last - first in
     let slice = mask_l (slice_range (bits_of words) first last) in
@@ -75,7 +80,8 @@ mask_is n few =
     ap (λ (m : ℕ). m % 2 ^ 128 - 1) (one-mul (2 ^ n)) ∙ ap (λ (m : ℕ). m - 1) (mod-eq_of_lt below)
 
 -- a slice up to a place within a first part is one of that part
-pub slice_taken : (row : List Bool) (targets first last : ℕ) → first < last → last ≤ targets → slice_range (take targets row) first last ≡ slice_range row first last
+pub slice_taken : (row : List Bool) (targets first last : ℕ) → first < last → last ≤ targets
+    → slice_range (take targets row) first last ≡ slice_range row first last
 slice_taken row targets first last some le =
     let parts : targets ≡ first + (targets - first) = omega arith in
     ap (λ (n : ℕ). take (last - first) (drop first (take n row))) parts

@@ -23,11 +23,13 @@ mark_at deck j t = get_or (ballot_at deck j) t false
 
 -- the deck with that one mark set so
 abbrev pub with_mark : Ballots → ℕ → ℕ → Bool → Ballots
-with_mark deck j t on = record deck { ballots = slice_set deck.ballots j (slice_set (ballot_at deck j) t on) }
+with_mark deck j t on =
+    record deck { ballots = slice_set deck.ballots j (slice_set (ballot_at deck j) t on) }
 
 -- k ballots with no mark
 abbrev pub blank_ballots : ℕ → ℕ → Ballots
-blank_ballots targets k = record { targets = targets; ballots = replicate k (replicate targets false) }
+blank_ballots targets k =
+    record { targets = targets; ballots = replicate k (replicate targets false) }
 
 -- the ballots of rows of 256 bits: the bits up to the number of targets
 abbrev pub ballots_of : ℕ → List (List Bool) → Ballots

@@ -16,9 +16,12 @@ only_ballots targets rules t = replicate (t + 1 + (rules.least - 1)) (only targe
 abbrev pub plain_ballots : ℕ → RuleSet → Ballots
 plain_ballots targets rules = record {
   targets = targets;
-  ballots = replicate rules.over (replicate targets true) ++ flat_map (only_ballots targets rules) (range_with_len 0 targets) ++ replicate rules.blank (replicate targets false);
+  ballots = replicate rules.over (replicate targets true)
+      ++ flat_map (only_ballots targets rules) (range_with_len 0 targets)
+      ++ replicate rules.blank (replicate targets false);
 }
 
 -- how many ballots that are
 abbrev pub plain_size : ℕ → RuleSet → ℕ
-plain_size targets rules = targets * (targets + 1) / 2 + targets * (rules.least - 1) + rules.over + rules.blank
+plain_size targets rules =
+    targets * (targets + 1) / 2 + targets * (rules.least - 1) + rules.over + rules.blank

@@ -8,7 +8,8 @@ use crate::row::Row;
 use lat_base::{Rules, Shape};
 use std::alloc::{AllocError, Global};
 
-/// How many ballots the plain deck has: for T targets `T(T+1)/2 + T·max(0, least-1) + over + blank`.
+/// How many ballots the plain deck has: for T targets
+/// `T(T+1)/2 + T·max(0, least-1) + over + blank`.
 pub fn plain_size(shape: &Shape, rules: &Rules) -> u32
     ensures { result ≡ plain_size (target_count shape.now) rules.now }
 {
@@ -30,13 +31,15 @@ fn push_copies(rows: &mut Vec<Row>, row: &Row, n: u16) -> Result<(), AllocError>
 
 impl Deck {
     /// The plain deck: `over` ballots with every target marked; then for each target in order, from
-    /// the first on, ballots that mark it alone, `max(1, least)` for the first and one more for each
-    /// next; then `blank` ballots with no mark.
+    /// the first on, ballots that mark it alone, `max(1, least)` for the first and one more for
+    /// each next; then `blank` ballots with no mark.
     #[tactic(auto, using(crate::proofs::PlainDeck::built_first, crate::proofs::PlainDeck::built_more))]
     pub fn plain(alloc: Global, shape: &Shape, rules: &Rules) -> Result<Deck, AllocError>
         requires { plain_size (target_count shape.now) rules.now ≤ 1024 }
-        ensures plain { IfOk result (λ deck. deck ≡ plain_ballots (target_count shape.now) rules.now) }
-        ensures size { IfOk result (λ deck. length deck.ballots ≡ plain_size (target_count shape.now) rules.now) }
+        ensures plain { IfOk result (λ deck. deck
+            ≡ plain_ballots (target_count shape.now) rules.now) }
+        ensures size { IfOk result (λ deck. length deck.ballots
+            ≡ plain_size (target_count shape.now) rules.now) }
     {
         let targets = shape.targets();
         let more = rules.least().saturating_sub(1);

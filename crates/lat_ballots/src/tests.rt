@@ -83,8 +83,8 @@ fn ballots_are_put_in_order(rt: HostRuntime) -> Result<(), Fail> {
     Ok(())
 }
 
-// One ballot that marks the first of three targets, read with the third target in the first place and
-// the first in the second.
+// One ballot that marks the first of three targets, read with the third target in the first place
+// and the first in the second.
 #[test]
 fn marks_go_with_their_sources(rt: HostRuntime) -> Result<(), Fail> {
     let alloc = rt.alloc();

@@ -12,7 +12,8 @@ use Rattle.lat_base.specs.Shape.{IsShape, AreFirsts, first_target, target_count}
 use Rattle.lat_base.specs.ShapeFault.{contest_fault, shape_fault, is_in_range}
 
 -- a contest's first target is at most the number of targets
-pub first_target_le : (contests : List Contest) (c : ℕ) → first_target contests c ≤ target_count contests
+pub first_target_le : (contests : List Contest) (c : ℕ)
+    → first_target contests c ≤ target_count contests
 first_target_le contests c = sum_by-take-le (λ x. x.targets) contests c
 
 -- a style has a target
@@ -23,7 +24,8 @@ some_target (c ∷ contests) is =
     omega (arith, sum_by-cons (λ (x : Contest). x.targets) c contests, first.0)
 
 -- where nothing is found, the test failed and nothing is found after it
-pub nothing : {A : Type 0} (b : Bool) (x : A) (y : Option A) → cond b (Some x) y ≡ None → (b ≡ false) × (y ≡ None)
+pub nothing : {A : Type 0} (b : Bool) (x : A) (y : Option A) → cond b (Some x) y ≡ None
+    → (b ≡ false) × (y ≡ None)
 nothing true x y h = cc
 nothing false x y h = (refl, h)
 
@@ -31,7 +33,8 @@ in_range_fits : (n : ℕ) → not (is_in_range n) ≡ false → (1 ≤ n) × (n 
 in_range_fits n h = (grind (arith, nat_tests), grind (arith, nat_tests))
 
 limits_fit : (i : ℕ) (contests : List Contest) → contest_fault i contests ≡ None
-    → AllByRecursion (λ c. (1 ≤ c.limit) × (c.limit ≤ 64)) contests × AllByRecursion (λ c. (1 ≤ c.targets) × (c.targets ≤ 64)) contests
+    → AllByRecursion (λ c. (1 ≤ c.limit) × (c.limit ≤ 64)) contests
+    × AllByRecursion (λ c. (1 ≤ c.targets) × (c.targets ≤ 64)) contests
 limits_fit i [] h = (tt, tt)
 limits_fit i (c ∷ contests) h =
     let a = nothing _ _ _ h in
@@ -39,7 +42,8 @@ limits_fit i (c ∷ contests) h =
     let more = limits_fit (i + 1) contests b.1 in
     ((in_range_fits c.limit a.0, more.0), (in_range_fits c.targets b.0, more.1))
 
-neither : {A : Type 0} (o rest : Option A) → cond (is_some o) o rest ≡ None → (o ≡ None) × (rest ≡ None)
+neither : {A : Type 0} (o rest : Option A) → cond (is_some o) o rest ≡ None
+    → (o ≡ None) × (rest ≡ None)
 neither None rest h = (refl, h)
 neither (Some x) rest h = cc
 
@@ -69,6 +73,7 @@ is_shape contests h =
     }
 
 -- the last of the first numbers is the number of targets, and there is one
-pub firsts_end : (contests : List Contest) (firsts : List ℕ) (n x : ℕ) → AreFirsts contests firsts → n ≡ length contests → x ≡ get_or firsts n x → x ≡ target_count contests
+pub firsts_end : (contests : List Contest) (firsts : List ℕ) (n x : ℕ) → AreFirsts contests firsts
+    → n ≡ length contests → x ≡ get_or firsts n x → x ≡ target_count contests
 firsts_end contests firsts n x are e is =
     is ∙ get_or_default firsts n x 0 (omega (arith, are.long)) ∙ are.each n (omega arith) ∙ ap target_count (take_all n contests (omega arith))

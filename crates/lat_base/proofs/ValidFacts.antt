@@ -12,7 +12,10 @@ use Rattle.lat_base.specs.ShapeFault.{is_in_range, contest_fault, shape_fault}
 in_range : (n : ℕ) → (1 ≤ n) × (n ≤ 64) → not (is_in_range n) ≡ false
 in_range n h = grind (arith, nat_tests)
 
-no_contest_fault : (i : ℕ) (contests : List Contest) → AllByRecursion (λ c. (1 ≤ c.limit) × (c.limit ≤ 64)) contests → AllByRecursion (λ c. (1 ≤ c.targets) × (c.targets ≤ 64)) contests → contest_fault i contests ≡ None
+no_contest_fault : (i : ℕ) (contests : List Contest)
+    → AllByRecursion (λ c. (1 ≤ c.limit) × (c.limit ≤ 64)) contests
+    → AllByRecursion (λ c. (1 ≤ c.targets) × (c.targets ≤ 64)) contests
+    → contest_fault i contests ≡ None
 no_contest_fault i [] limits counts = refl
 no_contest_fault i (c ∷ contests) limits counts =
     rw (in_range c.limit limits.0, in_range c.targets counts.0) (no_contest_fault (i + 1) contests limits.1 counts.1)

@@ -12,7 +12,8 @@ use Rattle.lat_base.specs.Tally.{report, own_total}
 -- the totals of contest c, in order
 abbrev pub totals_in : List Contest → List (List Bool) → ℕ → List ℕ
 totals_in contests deck c =
-    slice_range (report contests deck (identity (target_count contests))) (first_target contests c) (first_target contests (c + 1))
+    slice_range (report contests deck (identity (target_count contests))) (first_target contests c)
+    (first_target contests (c + 1))
 
 pub record IsCanonical (contests : List Contest) (deck : List (List Bool)) : Type 0 where
   -- no ballot is smaller than the next, from target 0 on, a mark being greater than none

@@ -15,7 +15,8 @@ IsRobust contests deck =
     → s ≡ identity (target_count contests)
 
 -- a deck of the style that is robust and obeys the rules
-pub record IsGood (contests : List Contest) (rules : RuleSet) (deck : List (List Bool)) : Type 0 where
+pub record IsGood (contests : List Contest) (rules : RuleSet) (deck : List (List Bool))
+    : Type 0 where
   pub fits : Fits (target_count contests) deck
   pub robust : IsRobust contests deck
   pub obeys : Obeys contests rules deck

@@ -28,7 +28,8 @@ abbrev pub is_blank : List Bool → Bool
 is_blank ballot = list_all not ballot
 
 -- the deck obeys the rules
-pub record Obeys (contests : List Contest) (rules : RuleSet) (deck : List (List Bool)) : Type 0 where
+pub record Obeys (contests : List Contest) (rules : RuleSet) (deck : List (List Bool))
+    : Type 0 where
   -- enough ballots are blank
   pub blank : rules.blank ≤ count_by is_blank deck
   -- each contest that can be overvoted is overvoted on enough ballots

@@ -16,7 +16,8 @@ reading ballot s = map (λ t. is_marked ballot t) s
 
 -- the marks of a ballot at the targets of contest c
 abbrev pub marks_in : List Contest → List Bool → ℕ → List Bool
-marks_in contests ballot c = slice_range ballot (first_target contests c) (first_target contests (c + 1))
+marks_in contests ballot c =
+    slice_range ballot (first_target contests c) (first_target contests (c + 1))
 
 -- how many targets of contest c a ballot marks
 abbrev pub mark_count : List Contest → List Bool → ℕ → ℕ
@@ -29,7 +30,8 @@ is_overvoted contests ballot c = nat_lt (contest_at contests c).limit (mark_coun
 -- whether a ballot, as read, votes for target u: it marks u, and no more targets of u's contest
 -- than the limit
 abbrev pub votes_for : List Contest → List Bool → ℕ → Bool
-votes_for contests read u = is_marked read u && not (is_overvoted contests read (contest_of contests u))
+votes_for contests read u =
+    is_marked read u && not (is_overvoted contests read (contest_of contests u))
 
 -- the votes that a deck gives to u under a misassignment
 abbrev pub total : List Contest → List (List Bool) → List ℕ → ℕ → ℕ

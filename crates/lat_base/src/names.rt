@@ -77,8 +77,8 @@ impl Names {
         Ok(())
     }
 
-    /// Adds a contest's ids at the end, which were tested already. The only error is want of memory;
-    /// the names are then as before.
+    /// Adds a contest's ids at the end, which were tested already. The only error is want of
+    /// memory; the names are then as before.
     #[tactic(auto, using(crate::proofs::NamesFacts::names_more))]
     pub fn add_valid(&mut self, id: Id, targets: Names0) -> Result<(), AllocError>
         requires { is_repeated self.old.contests id targets ≡ false }
@@ -95,7 +95,8 @@ impl Names {
         &self.style
     }
 
-    /// A law: no contest's id stands twice, and no target's id within a contest. The call does nothing.
+    /// A law: no contest's id stands twice, and no target's id within a contest. The call does
+    /// nothing.
     pub fn stand_once(&self)
         ensures { AreNames self.now.contests }
     {

@@ -47,7 +47,8 @@ fn first_targets(alloc: Global, contests: &[Contest]) -> Result<Vec<u16>, AllocE
 }
 
 impl Shape {
-    /// The style of these contests, or the first fault, in the order of the variants of `ShapeFault`.
+    /// The style of these contests, or the first fault, in the order of the variants of
+    /// `ShapeFault`.
     pub fn new(alloc: Global, contests: &[Contest]) -> Result<Shape, ShapeFault>
         requires { length contests.now < 2 ^ 32 }
         ensures ok { IfOk result (λ shape. shape ≡ contests.now) }

@@ -1,4 +1,5 @@
-//! Totals that are worked out by hand, as theorems: what a reader of the definitions gets wrong first.
+//! Totals that are worked out by hand, as theorems: what a reader of the definitions gets wrong
+//! first.
 
 ghost use Rattle.std.specs.Prelude.{◌≡◌, [], ◌∷◌, true};
 ghost use Rattle.lat_base.specs.Misassignment.{identity};
@@ -10,8 +11,8 @@ pub fn a_mark_is_a_vote()
     ensures { report two_contests (first_and_last ∷ []) (identity 4) ≡ 1 ∷ 0 ∷ 0 ∷ 1 ∷ [] }
 {}
 
-/// Overvotes are tested on the marks as they are read: where the second targets of both contests are
-/// exchanged, the same ballot overvotes the first contest, and no target has a vote.
+/// Overvotes are tested on the marks as they are read: where the second targets of both contests
+/// are exchanged, the same ballot overvotes the first contest, and no target has a vote.
 pub fn overvotes_are_tested_as_read()
     ensures { report two_contests (first_and_last ∷ []) seconds_exchanged ≡ 0 ∷ 0 ∷ 0 ∷ 0 ∷ [] }
 {}

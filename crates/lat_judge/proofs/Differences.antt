@@ -21,7 +21,8 @@ own_long contests deck =
 
 -- the total of a target in the report
 pub own_at : (contests : List Contest) (deck : List (List Bool)) (t : ℕ)
-    → t < target_count contests → slice_get (own_report contests deck) t ≡ Some (own_total contests deck t)
+    → t < target_count contests → slice_get (own_report contests deck) t
+    ≡ Some (own_total contests deck t)
 own_at contests deck t lt =
     let f : ℕ → ℕ = total contests deck (identity (target_count contests)) in
     let long = own_long contests deck in

@@ -18,8 +18,10 @@ identity_sources n some few =
     let e = length-range_with_len 0 n in
     record { some = omega (arith, e); few = omega (arith, e); is = subst (λ (m : ℕ). IsMisassignment m (identity n)) (sym e) (identity_is n) }
 
-pub source_at_identity : (s : List ℕ) (u : ℕ) → u < length s → s ≡ identity (length s) → get_or s u 0 ≡ u
+pub source_at_identity : (s : List ℕ) (u : ℕ) → u < length s → s ≡ identity (length s)
+    → get_or s u 0 ≡ u
 source_at_identity s u lt e = ap (λ (l : List ℕ). get_or l u 0) e ∙ identity_at (length s) u lt
 
-pub identity_from : (s : List ℕ) → ((u : ℕ) → u < length s → get_or s u 0 ≡ u) → s ≡ identity (length s)
+pub identity_from : (s : List ℕ) → ((u : ℕ) → u < length s → get_or s u 0 ≡ u)
+    → s ≡ identity (length s)
 identity_from s h = ext_get_or 0 s (identity (length s)) (sym (identity_long (length s))) (λ u lt. h u lt ∙ sym (identity_at (length s) u lt))

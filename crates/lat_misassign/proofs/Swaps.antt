@@ -17,5 +17,6 @@ sources_permuted s new are moved =
     }
 
 -- an exchange of two places
-pub sources_swapped : (s new : List ℕ) (i j : ℕ) → AreSources s → i < length s → j < length s → new ≡ swap s i j → AreSources new
+pub sources_swapped : (s new : List ℕ) (i j : ℕ) → AreSources s → i < length s → j < length s
+    → new ≡ swap s i j → AreSources new
 sources_swapped s new i j are h k is = sources_permuted s new are (record { moves = (i, j) ∷ []; below = (h, k, tt); is = is })

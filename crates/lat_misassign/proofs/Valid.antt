@@ -26,10 +26,13 @@ none_counted t (x ∷ s) h =
     omega (arith, sum_by-cons (λ (y : ℕ). cond (y == t) 1 0) x s, here, none_counted t s parts.1)
 
 -- one more number at the end, which stood nowhere before
-once_more : (before : List ℕ) (source t : ℕ) → ((u : ℕ) → count_of u before ≤ 1) → count_of source before ≡ 0 → count_of t (before ++ source ∷ []) ≤ 1
+once_more : (before : List ℕ) (source t : ℕ) → ((u : ℕ) → count_of u before ≤ 1)
+    → count_of source before ≡ 0 → count_of t (before ++ source ∷ []) ≤ 1
 once_more before source t once none = by_last before source t once none (source == t) refl
   where
-    by_last : (before : List ℕ) (source t : ℕ) → ((u : ℕ) → count_of u before ≤ 1) → count_of source before ≡ 0 → (b : Bool) → (source == t) ≡ b → count_of t (before ++ source ∷ []) ≤ 1
+    by_last : (before : List ℕ) (source t : ℕ) → ((u : ℕ) → count_of u before ≤ 1)
+        → count_of source before ≡ 0 → (b : Bool) → (source == t) ≡ b
+        → count_of t (before ++ source ∷ []) ≤ 1
     by_last before source t once none true e =
         let same : source ≡ t = grind (arith, nat_tests) in
         let here : ◌≡◌ {A = ℕ} (cond (source == t) 1 0) 1 = ap (λ (b : Bool). cond b 1 0) e in
@@ -43,7 +46,8 @@ pub record Sound (n : ℕ) (s : List ℕ) : Type 0 where
   pub once : (t : ℕ) → count_of t s ≤ 1
   pub below : count_by (λ x. nat_lt x n) s ≡ length s
 
-sound_more : (n : ℕ) (before : List ℕ) (source : ℕ) → Sound n before → nat_lt source n ≡ true → count_of source before ≡ 0 → Sound n (before ++ source ∷ [])
+sound_more : (n : ℕ) (before : List ℕ) (source : ℕ) → Sound n before → nat_lt source n ≡ true
+    → count_of source before ≡ 0 → Sound n (before ++ source ∷ [])
 sound_more n before source sound lt none =
     let here : ◌≡◌ {A = ℕ} (cond (nat_lt source n) 1 0) 1 = ap (λ (b : Bool). cond b 1 0) lt in
     record {
@@ -51,7 +55,8 @@ sound_more n before source sound lt none =
       below = omega (arith, sum_by-append (λ (y : ℕ). cond (nat_lt y n) 1 0) before (source ∷ []), sum_by-cons (λ (y : ℕ). cond (nat_lt y n) 1 0) source [], here, sound.below, length-append before (source ∷ []));
     }
 
-sound_from : (all before rest : List ℕ) → all ≡ before ++ rest → Sound (length all) before → fault_from all (length before) rest ≡ None → Sound (length all) all
+sound_from : (all before rest : List ℕ) → all ≡ before ++ rest → Sound (length all) before
+    → fault_from all (length before) rest ≡ None → Sound (length all) all
 sound_from all before [] e sound h = subst (Sound (length all)) (sym (e ∙ append-nil before)) sound
 sound_from all before (source ∷ rest) e sound h =
     let range = nothing (not (nat_lt source (length all))) (OutOfRange (length before)) (if list_any (λ x. x == source) (take (length before) all) then Some (Repeated (length before)) else fault_from all (length before + 1) rest) h in
@@ -76,7 +81,8 @@ sound_is s sound = record {
 pub valid : (s : List ℕ) → source_fault s ≡ None → IsMisassignment (length s) s
 valid s h = sound_is s (sound_from s [] s refl (record { once = λ t. omega arith; below = refl }) h)
 
-pub valid_sources : (s : List ℕ) → source_fault s ≡ None → 1 ≤ length s → length s ≤ 256 → AreSources s
+pub valid_sources : (s : List ℕ) → source_fault s ≡ None → 1 ≤ length s → length s ≤ 256
+    → AreSources s
 valid_sources s h some few = record { some = some; few = few; is = valid s h }
 
 -- a number that stands no time isn't there
@@ -84,7 +90,9 @@ none_listed : (t : ℕ) (s : List ℕ) → count_of t s ≡ 0 → list_any (λ x
 none_listed t [] h = refl
 none_listed t (x ∷ s) h = by_first t x s h (none_listed t s) (x == t) refl
   where
-    by_first : (t x : ℕ) (s : List ℕ) → count_of t (x ∷ s) ≡ 0 → (count_of t s ≡ 0 → list_any (λ y. y == t) s ≡ false) → (b : Bool) → (x == t) ≡ b → list_any (λ y. y == t) (x ∷ s) ≡ false
+    by_first : (t x : ℕ) (s : List ℕ) → count_of t (x ∷ s) ≡ 0
+        → (count_of t s ≡ 0 → list_any (λ y. y == t) s ≡ false) → (b : Bool) → (x == t) ≡ b
+        → list_any (λ y. y == t) (x ∷ s) ≡ false
     by_first t x s h rest true e =
         let here : ◌≡◌ {A = ℕ} (cond (x == t) 1 0) 1 = ap (λ (b : Bool). cond b 1 0) e in
         absurd (omega (arith, sum_by-cons (λ (y : ℕ). cond (y == t) 1 0) x s, here, h))
@@ -92,12 +100,14 @@ none_listed t (x ∷ s) h = by_first t x s h (none_listed t s) (x == t) refl
         let here : ◌≡◌ {A = ℕ} (cond (x == t) 1 0) 0 = ap (λ (b : Bool). cond b 1 0) e in
         ap (λ (b : Bool). b || list_any (λ y. y == t) s) e ∙ rest (omega (arith, sum_by-cons (λ (y : ℕ). cond (y == t) 1 0) x s, here, h))
 
-both_pass : (a b : Bool) (x y : MisFault) (rest : Option MisFault) → a ≡ true → b ≡ false → rest ≡ None → (if not a then Some x else if b then Some y else rest) ≡ None
+both_pass : (a b : Bool) (x y : MisFault) (rest : Option MisFault) → a ≡ true → b ≡ false
+    → rest ≡ None → (if not a then Some x else if b then Some y else rest) ≡ None
 both_pass true false x y rest h k e = e
 both_pass true true x y rest h k e = cc
 both_pass false b x y rest h k e = cc
 
-unfaulty_from : (all before rest : List ℕ) → all ≡ before ++ rest → IsMisassignment (length all) all → fault_from all (length before) rest ≡ None
+unfaulty_from : (all before rest : List ℕ) → all ≡ before ++ rest → IsMisassignment (length all) all
+    → fault_from all (length before) rest ≡ None
 unfaulty_from all before [] e is = refl
 unfaulty_from all before (source ∷ rest) e is =
     let place : length before < length all = omega (arith, ap length e, length-append before (source ∷ rest)) in

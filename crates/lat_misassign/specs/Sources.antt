@@ -28,4 +28,5 @@ exchanged contests c d u =
 
 -- the exchange of the contests c and d, target by target
 abbrev pub contests_exchanged : List Contest → ℕ → ℕ → List ℕ
-contests_exchanged contests c d = map (exchanged contests c d) (range_with_len 0 (target_count contests))
+contests_exchanged contests c d =
+    map (exchanged contests c d) (range_with_len 0 (target_count contests))

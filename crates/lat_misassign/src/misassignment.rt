@@ -68,8 +68,10 @@ impl Misassignment {
         requires few { length sources.now ≤ 256 }
         ensures ok { IfOk result (λ s. s ≡ sources.now) }
         ensures valid { OnOk result (IsMisassignment (length sources.now) sources.now) }
-        ensures refused { (f : MisFault) → f ≢ MisFault.Memory → result ≡ Err f → ¬ IsMisassignment (length sources.now) sources.now }
-        ensures fault { (f : MisFault) → f ≢ MisFault.Memory → (result ≡ Err f) ↔ (source_fault sources.now ≡ Some f) }
+        ensures refused { (f : MisFault) → f ≢ MisFault.Memory → result ≡ Err f
+            → ¬ IsMisassignment (length sources.now) sources.now }
+        ensures fault { (f : MisFault) → f ≢ MisFault.Memory
+            → (result ≡ Err f) ↔ (source_fault sources.now ≡ Some f) }
     {
         if let Some(fault) = find_fault(sources) {
             return Err(fault);

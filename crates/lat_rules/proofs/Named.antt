@@ -16,18 +16,23 @@ either None b x h = inr h
 either (Some y) b x h = inl h
 
 -- what is broken first is broken at some number
-broken_at : (f : ℕ → Option Broken) (a n : ℕ) (x : Broken) → first_broken f (range_with_len a n) ≡ Some x → (i : ℕ) × (a ≤ i) × (i < a + n) × (f i ≡ Some x)
+broken_at : (f : ℕ → Option Broken) (a n : ℕ) (x : Broken)
+    → first_broken f (range_with_len a n) ≡ Some x
+    → (i : ℕ) × (a ≤ i) × (i < a + n) × (f i ≡ Some x)
 broken_at f a zero x h = cc
 broken_at f a (suc n) x h = elim (either (f a) (first_broken f (range_with_len (a + 1) n)) x h) [
   | inl here ↦ (a, omega arith, omega arith, here)
   | inr later ↦ let rest = broken_at f (a + 1) n x later in (rest.0, omega (arith, rest.1), omega (arith, rest.2), rest.3)
 ]
 
-named_if : (contests : List Contest) (b : Bool) (x y : Broken) → cond b (Some x) None ≡ Some y → IsNamed contests x → IsNamed contests y
+named_if : (contests : List Contest) (b : Bool) (x y : Broken) → cond b (Some x) None ≡ Some y
+    → IsNamed contests x → IsNamed contests y
 named_if contests true x y h named = let same : x ≡ y = cc in subst (IsNamed contests) same named
 named_if contests false x y h named = cc
 
-pair_named : (contests : List Contest) (deck : List (List Bool)) (x : Broken) → first_broken (broken_equal contests deck) (range_with_len 0 (target_count contests)) ≡ Some x → IsNamed contests x
+pair_named : (contests : List Contest) (deck : List (List Bool)) (x : Broken)
+    → first_broken (broken_equal contests deck) (range_with_len 0 (target_count contests)) ≡ Some x
+    → IsNamed contests x
 pair_named contests deck x h =
     let at_t = broken_at (broken_equal contests deck) 0 (target_count contests) x h in
     let t = at_t.0 in
@@ -38,11 +43,13 @@ pair_named contests deck x h =
     (omega (arith, at_t.2), omega (arith, last, at_u.1, at_u.2))
 
 by_distinct : (contests : List Contest) (deck : List (List Bool)) (x : Broken) (b : Bool)
-    → cond b (first_broken (broken_equal contests deck) (range_with_len 0 (target_count contests))) None ≡ Some x → IsNamed contests x
+    → cond b (first_broken (broken_equal contests deck) (range_with_len 0 (target_count contests)))
+    None ≡ Some x → IsNamed contests x
 by_distinct contests deck x true h = pair_named contests deck x h
 by_distinct contests deck x false h = cc
 
-pub named : (contests : List Contest) (rules : RuleSet) (deck : List (List Bool)) (x : Broken) → broken_rule contests rules deck ≡ Some x → IsNamed contests x
+pub named : (contests : List Contest) (rules : RuleSet) (deck : List (List Bool)) (x : Broken)
+    → broken_rule contests rules deck ≡ Some x → IsNamed contests x
 named contests rules deck x h = elim (either (broken_blank rules deck) _ x h) [
   | inl blank ↦ named_if contests (nat_lt (blank_count deck) rules.blank) (Blank (blank_count deck)) x blank tt
   | inr rest ↦ elim (either (first_broken (broken_over contests rules deck) (range_with_len 0 (length contests))) _ x rest) [

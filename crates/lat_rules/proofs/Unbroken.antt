@@ -30,7 +30,8 @@ fails : (b : Bool) (x : Broken) → b ≡ false → cond b (Some x) None ≡ Non
 fails true x h = cc
 fails false x h = refl
 
-each_none : (f : ℕ → Option Broken) (a n x : ℕ) → first_broken f (range_with_len a n) ≡ None → a ≤ x → x < a + n → f x ≡ None
+each_none : (f : ℕ → Option Broken) (a n x : ℕ) → first_broken f (range_with_len a n) ≡ None → a ≤ x
+    → x < a + n → f x ≡ None
 each_none f a zero x h le lt = absurd (omega arith)
 each_none f a (suc n) x h le lt =
     let parts = neither (f a) (first_broken f (range_with_len (a + 1) n)) h in
@@ -39,7 +40,8 @@ each_none f a (suc n) x h le lt =
       | inr later ↦ each_none f (a + 1) n x parts.1 (omega arith) (omega arith)
     ]
 
-none_each : (f : ℕ → Option Broken) (a n : ℕ) → ((x : ℕ) → a ≤ x → x < a + n → f x ≡ None) → first_broken f (range_with_len a n) ≡ None
+none_each : (f : ℕ → Option Broken) (a n : ℕ) → ((x : ℕ) → a ≤ x → x < a + n → f x ≡ None)
+    → first_broken f (range_with_len a n) ≡ None
 none_each f a zero h = refl
 none_each f a (suc n) h = both (f a) (first_broken f (range_with_len (a + 1) n)) (h a (omega arith) (omega arith)) (none_each f (a + 1) n (λ x le lt. h x (omega arith) (omega arith)))
 
@@ -51,7 +53,8 @@ one_not : (a b : Bool) → (a ≡ true → b ≡ false) → (a && b) ≡ false
 one_not true b h = h refl
 one_not false b h = refl
 
-pub obeyed : (contests : List Contest) (rules : RuleSet) (deck : List (List Bool)) → broken_rule contests rules deck ≡ None → Obeys contests rules deck
+pub obeyed : (contests : List Contest) (rules : RuleSet) (deck : List (List Bool))
+    → broken_rule contests rules deck ≡ None → Obeys contests rules deck
 obeyed contests rules deck h =
     let a = neither (broken_blank rules deck) _ h in
     let b = neither (first_broken (broken_over contests rules deck) (range_with_len 0 (length contests))) _ a.1 in
@@ -74,7 +77,9 @@ obeyed contests rules deck h =
           eqb-false (own_total contests deck t) (own_total contests deck u) (failed (own_total contests deck t == own_total contests deck u) (Equal t u (own_total contests deck t)) pair);
     }
 
-distinct_by : (contests : List Contest) (rules : RuleSet) (deck : List (List Bool)) → Obeys contests rules deck → (b : Bool) → rules.distinct ≡ b → broken_distinct contests rules deck ≡ None
+distinct_by : (contests : List Contest) (rules : RuleSet) (deck : List (List Bool))
+    → Obeys contests rules deck → (b : Bool) → rules.distinct ≡ b
+    → broken_distinct contests rules deck ≡ None
 distinct_by contests rules deck is false off = ap (λ (x : Bool). cond x (first_broken (broken_equal contests deck) (range_with_len 0 (target_count contests))) None) off
 distinct_by contests rules deck is true on =
     ap (λ (x : Bool). cond x (first_broken (broken_equal contests deck) (range_with_len 0 (target_count contests))) None) on
@@ -86,7 +91,8 @@ distinct_by contests rules deck is true on =
     fails (own_total contests deck t == own_total contests deck u) (Equal t u (own_total contests deck t))
     (ne_eqb (own_total contests deck t) (own_total contests deck u) (is.distinct on t u (omega arith) within (sym same)))))
 
-pub unbroken : (contests : List Contest) (rules : RuleSet) (deck : List (List Bool)) → Obeys contests rules deck → broken_rule contests rules deck ≡ None
+pub unbroken : (contests : List Contest) (rules : RuleSet) (deck : List (List Bool))
+    → Obeys contests rules deck → broken_rule contests rules deck ≡ None
 unbroken contests rules deck is =
     both (broken_blank rules deck) _ (fails (nat_lt (blank_count deck) rules.blank) (Blank (blank_count deck)) (le-ltb (blank_count deck) rules.blank is.blank))
     (both (first_broken (broken_over contests rules deck) (range_with_len 0 (length contests))) _

@@ -28,26 +28,31 @@ over_count contests deck c = count_by (λ ballot. is_overvoted contests ballot c
 
 -- too few blank ballots
 abbrev pub broken_blank : RuleSet → List (List Bool) → Option Broken
-broken_blank rules deck = if nat_lt (blank_count deck) rules.blank then Some (Blank (blank_count deck)) else None
+broken_blank rules deck =
+    if nat_lt (blank_count deck) rules.blank then Some (Blank (blank_count deck)) else None
 
 -- contest c can be overvoted, and is on too few ballots
 abbrev pub broken_over : List Contest → RuleSet → List (List Bool) → ℕ → Option Broken
 broken_over contests rules deck c =
-    if nat_lt (contest_at contests c).limit (contest_at contests c).targets && nat_lt (over_count contests deck c) rules.over
+    if nat_lt (contest_at contests c).limit (contest_at contests c).targets
+    && nat_lt (over_count contests deck c) rules.over
     then Some (Over c (over_count contests deck c)) else None
 
 -- target t has too few votes
 abbrev pub broken_least : List Contest → RuleSet → List (List Bool) → ℕ → Option Broken
-broken_least contests rules deck t = if nat_lt (own_total contests deck t) rules.least then Some (Least t (own_total contests deck t)) else None
+broken_least contests rules deck t = if nat_lt (own_total contests deck t) rules.least then Some
+    (Least t (own_total contests deck t)) else None
 
 -- the targets t and u have equal totals
 abbrev pub broken_pair : List Contest → List (List Bool) → ℕ → ℕ → Option Broken
 broken_pair contests deck t u =
-    if own_total contests deck t == own_total contests deck u then Some (Equal t u (own_total contests deck t)) else None
+    if own_total contests deck t == own_total contests deck u
+    then Some (Equal t u (own_total contests deck t)) else None
 
 -- the targets after t in its contest
 abbrev pub later_targets : List Contest → ℕ → List ℕ
-later_targets contests t = range_with_len (t + 1) (first_target contests (contest_of contests t + 1) - (t + 1))
+later_targets contests t =
+    range_with_len (t + 1) (first_target contests (contest_of contests t + 1) - (t + 1))
 
 -- a later target of the same contest has the total of t
 abbrev pub broken_equal : List Contest → List (List Bool) → ℕ → Option Broken
@@ -56,7 +61,8 @@ broken_equal contests deck t = first_broken (broken_pair contests deck t) (later
 -- totals of one contest that must differ and don't
 abbrev pub broken_distinct : List Contest → RuleSet → List (List Bool) → Option Broken
 broken_distinct contests rules deck =
-    if rules.distinct then first_broken (broken_equal contests deck) (range_with_len 0 (target_count contests)) else None
+    if rules.distinct then first_broken (broken_equal contests deck)
+    (range_with_len 0 (target_count contests)) else None
 
 -- the first rule that is broken: blank ballots, overvotes contest by contest, least totals target
 -- by target, equal totals pair by pair
@@ -64,7 +70,8 @@ abbrev pub broken_rule : List Contest → RuleSet → List (List Bool) → Optio
 broken_rule contests rules deck =
     or_else (broken_blank rules deck)
     (or_else (first_broken (broken_over contests rules deck) (range_with_len 0 (length contests)))
-    (or_else (first_broken (broken_least contests rules deck) (range_with_len 0 (target_count contests)))
+    (or_else (first_broken (broken_least contests rules deck)
+    (range_with_len 0 (target_count contests)))
     (broken_distinct contests rules deck)))
 
 -- what is broken is named by contests and targets of the style

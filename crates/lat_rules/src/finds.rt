@@ -82,7 +82,8 @@ fn over_at(shape: &Shape, rules: &Rules, deck: &Deck, c: u16) -> Option<Broken>
 #[tactic(auto, using(crate::proofs::First::first_here, crate::proofs::First::first_later, crate::proofs::First::first_end))]
 pub fn find_over(shape: &Shape, rules: &Rules, deck: &Deck) -> Option<Broken>
     requires { deck.now.targets ≡ target_count shape.now }
-    ensures { result ≡ first_broken (broken_over shape.now rules.now deck.now.ballots) (range_with_len 0 (length shape.now)) }
+    ensures { result ≡ first_broken (broken_over shape.now rules.now deck.now.ballots)
+        (range_with_len 0 (length shape.now)) }
 {
     for c in 0..shape.contests() {
         if let Some(broken) = over_at(shape, rules, deck, c) {
@@ -109,7 +110,8 @@ fn least_at(shape: &Shape, rules: &Rules, deck: &Deck, t: u16) -> Option<Broken>
 #[tactic(auto, using(crate::proofs::First::first_here, crate::proofs::First::first_later, crate::proofs::First::first_end))]
 pub fn find_least(shape: &Shape, rules: &Rules, deck: &Deck) -> Option<Broken>
     requires { deck.now.targets ≡ target_count shape.now }
-    ensures { result ≡ first_broken (broken_least shape.now rules.now deck.now.ballots) (range_with_len 0 (target_count shape.now)) }
+    ensures { result ≡ first_broken (broken_least shape.now rules.now deck.now.ballots)
+        (range_with_len 0 (target_count shape.now)) }
 {
     for t in 0..shape.targets() {
         if let Some(broken) = least_at(shape, rules, deck, t) {
@@ -154,7 +156,8 @@ fn equal_at(shape: &Shape, deck: &Deck, t: u16) -> Option<Broken>
 #[tactic(auto, using(crate::proofs::First::first_here, crate::proofs::First::first_later, crate::proofs::First::first_end))]
 fn find_equal(shape: &Shape, deck: &Deck) -> Option<Broken>
     requires { deck.now.targets ≡ target_count shape.now }
-    ensures { result ≡ first_broken (broken_equal shape.now deck.now.ballots) (range_with_len 0 (target_count shape.now)) }
+    ensures { result ≡ first_broken (broken_equal shape.now deck.now.ballots)
+        (range_with_len 0 (target_count shape.now)) }
 {
     for t in 0..shape.targets() {
         if let Some(broken) = equal_at(shape, deck, t) {

@@ -51,9 +51,17 @@ calls_code = coded× schedule_code (coded× schedule_code schedule_code)
 abbrev pub told_code : Coded Told
 told_code =
     code_by (Files × (List ℕ × (ℕ × (Schedule × (Schedule × Schedule)))))
-    (coded× (map.code (coded_list coded_ℕ) (coded_list coded_ℕ)) (coded× (coded_list coded_ℕ) (coded× coded_ℕ calls_code)))
+    (coded× (map.code (coded_list coded_ℕ) (coded_list coded_ℕ))
+    (coded× (coded_list coded_ℕ) (coded× coded_ℕ calls_code)))
     (λ s. (s.files, (s.left, (s.faults, (s.opens, (s.takes, s.puts))))))
-    (λ p. record { files = p.0; left = p.1.0; faults = p.1.1.0; opens = p.1.1.1.0; takes = p.1.1.1.1.0; puts = p.1.1.1.1.1 }) (λ _. refl)
+    (λ p. record {
+      files = p.0;
+      left = p.1.0;
+      faults = p.1.1.0;
+      opens = p.1.1.1.0;
+      takes = p.1.1.1.1.0;
+      puts = p.1.1.1.1.1;
+    }) (λ _. refl)
 
 -- a sink: its bytes, its faults and its calls
 pub record Given : Type 0 where

@@ -45,7 +45,14 @@ impl Model for MemoryShelf {
 impl MemoryShelf {
     /// No files, no faults, and no call that fails.
     pub fn new(alloc: Global) -> MemoryShelf
-        ensures { result ≡ record { files = files_of []; left = []; faults = 0; opens = unused; takes = unused; puts = unused } }
+        ensures { result ≡ record {
+          files = files_of [];
+          left = [];
+          faults = 0;
+          opens = unused;
+          takes = unused;
+          puts = unused;
+        } }
     {
         MemoryShelf {
             alloc,
@@ -59,8 +66,8 @@ impl MemoryShelf {
         }
     }
 
-    /// Sets a file. Afterwards nothing is open. The only error is want of memory; the shelf is then as
-    /// before.
+    /// Sets a file. Afterwards nothing is open. The only error is want of memory; the shelf is then
+    /// as before.
     pub fn add(&mut self, name: &str, bytes: &[u8]) -> Result<(), AllocError>
         ensures ok { OnOk result (self.new
             ≡ record self.old { files = insert self.old.files name.now bytes.now; left = [] }) }

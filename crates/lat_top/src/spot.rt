@@ -3,7 +3,8 @@
 pub enum Spot {
     /// The style's id.
     Style,
-    /// The contest of that number: its id, its limit, its targets or their ids, or that there is none.
+    /// The contest of that number: its id, its limit, its targets or their ids, or that there is
+    /// none.
     Contest(u16),
     /// The rules.
     Rules,

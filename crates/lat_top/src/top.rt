@@ -48,7 +48,8 @@ fn run_command<H: Shelf, K: Sink>(
     out: &mut K,
 ) -> Status
     ensures { let seen = outside H.files H.faults K.given K.faults in
-        Ends (job_of (asked_by command.now)) result (seen shelf.old out.old) (seen shelf.new out.new) }
+        Ends (job_of (asked_by command.now)) result
+        (seen shelf.old out.old) (seen shelf.new out.new) }
 {
     if let Command::All(asked) = command {
         return plan_all(alloc, asked, shelf, out);

@@ -52,8 +52,8 @@ fn write_all<H: Shelf, K: Sink>(
     }
 }
 
-/// Writes what a command answered: puts its files in order and then gives its summary, up to the first
-/// call that fails. The status is the answer's where all was written.
+/// Writes what a command answered: puts its files in order and then gives its summary, up to the
+/// first call that fails. The status is the answer's where all was written.
 pub fn write_output<H: Shelf, K: Sink>(shelf: &mut H, out: &mut K, output: &Output) -> Status
     ensures { let seen = outside H.files H.faults K.given K.faults in
         WritesAs output.now.status (texts_of output.now)

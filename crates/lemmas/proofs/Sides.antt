@@ -5,7 +5,8 @@ use Rattle.std.proofs.lemmas.List.{get_or-drop}
 use Rattle.std.proofs.lemmas.List.Sums.{sum_by-cons}
 
 -- a count of the front, by its first element
-count_head : {X : Type 0} (p : X → Bool) (d : X) (n : ℕ) (xs : List X) → p d ≡ false → count_by p (take (suc n) xs) ≡ cond (p (get_or xs 0 d)) 1 0 + count_by p (take n (drop 1 xs))
+count_head : {X : Type 0} (p : X → Bool) (d : X) (n : ℕ) (xs : List X) → p d ≡ false
+    → count_by p (take (suc n) xs) ≡ cond (p (get_or xs 0 d)) 1 0 + count_by p (take n (drop 1 xs))
 count_head p d zero [] h = sym (ap (λ (b : Bool). cond b 1 0 + 0) h)
 count_head p d (suc n) [] h = sym (ap (λ (b : Bool). cond b 1 0 + 0) h)
 count_head {X} p d n (x ∷ xs) h = sum_by-cons (λ (y : X). cond (p y) 1 0) x (take n xs)
@@ -20,7 +21,8 @@ or_le true false false h = elim (h refl) [
 ]
 
 -- where each that passes has one of two others that pass, there are no more of them
-count_both : {X Y Z : Type 0} (p : X → Bool) (q : Y → Bool) (r : Z → Bool) (a : X) (b : Y) (c : Z) → p a ≡ false → q b ≡ false → r c ≡ false
+count_both : {X Y Z : Type 0} (p : X → Bool) (q : Y → Bool) (r : Z → Bool) (a : X) (b : Y) (c : Z)
+    → p a ≡ false → q b ≡ false → r c ≡ false
     → (n : ℕ) (xs : List X) (ys : List Y) (zs : List Z)
     → ((i : ℕ) → p (get_or xs i a) ≡ true → (q (get_or ys i b) ≡ true) ⊎ (r (get_or zs i c) ≡ true))
     → count_by p (take n xs) ≤ count_by q (take n ys) + count_by r (take n zs)
@@ -37,10 +39,12 @@ count_both p q r a b c ha hb hc (suc n) xs ys zs h =
     omega (arith, e, f, g, rest, here)
 
 -- the same in a range
-pub range_both : {X Y Z : Type 0} (p : X → Bool) (q : Y → Bool) (r : Z → Bool) (a : X) (b : Y) (c : Z) → p a ≡ false → q b ≡ false → r c ≡ false
+pub range_both : {X Y Z : Type 0} (p : X → Bool) (q : Y → Bool) (r : Z → Bool) (a : X) (b : Y)
+    (c : Z) → p a ≡ false → q b ≡ false → r c ≡ false
     → (m n : ℕ) (xs : List X) (ys : List Y) (zs : List Z)
     → ((i : ℕ) → p (get_or xs i a) ≡ true → (q (get_or ys i b) ≡ true) ⊎ (r (get_or zs i c) ≡ true))
-    → count_by p (slice_range xs m n) ≤ count_by q (slice_range ys m n) + count_by r (slice_range zs m n)
+    → count_by p (slice_range xs m n)
+    ≤ count_by q (slice_range ys m n) + count_by r (slice_range zs m n)
 range_both p q r a b c ha hb hc m n xs ys zs h =
     count_both p q r a b c ha hb hc (n - m) (drop m xs) (drop m ys) (drop m zs)
     (λ i k. subst (λ y. (q y ≡ true) ⊎ (r (get_or (drop m zs) i c) ≡ true)) (sym (get_or-drop m ys i b))

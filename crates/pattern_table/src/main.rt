@@ -1,5 +1,5 @@
-//! Prints the decks of all patterns of three small styles, at 0 to 40 ballots. What it must print is
-//! made by bench/patterns.py, which follows the rules of the patterns and none of this code.
+//! Prints the decks of all patterns of three small styles, at 0 to 40 ballots. What it must print
+//! is made by bench/patterns.py, which follows the rules of the patterns and none of this code.
 #![tactic(auto)]
 
 use deck_builder::propose;
@@ -8,7 +8,8 @@ use lat_base::{Contest, Rules, Shape};
 use std::alloc::AllocError;
 use std::process::ExitCode;
 
-// The digit of a ballot: the mark at target t has the worth 2^t, and a ballot has at most four targets.
+// The digit of a ballot: the mark at target t has the worth 2^t, and a ballot has at most four
+// targets.
 fn digit(deck: &Deck, j: u16) -> char {
     let mut worth: u8 = 0;
     for t in 0..4 {

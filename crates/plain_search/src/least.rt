@@ -64,8 +64,8 @@ fn find_from(
 }
 
 /// A good deck of the fewest ballots, or `None` where no deck of at most `max` ballots is good. The
-/// time grows as two to the number of ballots times targets, times the misassignments. The only error
-/// is want of memory.
+/// time grows as two to the number of ballots times targets, times the misassignments. The only
+/// error is want of memory.
 pub fn least_deck(
     alloc: Global,
     shape: &Shape,

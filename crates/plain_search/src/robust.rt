@@ -59,8 +59,8 @@ fn is_robust_from(
     Ok(true)
 }
 
-/// Whether every misassignment but the identity changes some total of the deck. The only error is want
-/// of memory.
+/// Whether every misassignment but the identity changes some total of the deck. The only error is
+/// want of memory.
 #[tactic(auto, using(crate::proofs::Tried::all_tried))]
 pub fn is_robust(alloc: Global, shape: &Shape, deck: &Deck) -> Result<bool, AllocError>
     requires { deck.now.targets ≡ target_count shape.now }

@@ -29,7 +29,8 @@ use Rattle.planner.specs.Lower.{IsLowerFor}
 use Rattle.planner.specs.Searched.{IsGoodOf, IsClosedTree}
 use Rattle.planner.specs.Step.{IsLowerOf}
 
-at_close : (r : Reason) (i : ℕ) (before : List (Node Label Reason)) (s : PartialDeck) (node : Node Label Reason) → slice_get (Close r ∷ []) i ≡ Some node → IsEagerAt 64 before s node
+at_close : (r : Reason) (i : ℕ) (before : List (Node Label Reason)) (s : PartialDeck)
+    (node : Node Label Reason) → slice_get (Close r ∷ []) i ≡ Some node → IsEagerAt 64 before s node
 at_close r zero before s node get = let same : Close r ≡ node = cc in subst (IsEagerAt 64 before s) same tt
 at_close r (suc i) before s node get = cc
 
@@ -37,24 +38,30 @@ at_close r (suc i) before s node get = cc
 only_close : (root : PartialDeck) (r : Reason) → IsEagerTree root (Close r ∷ [])
 only_close root r = λ i s node get at. at_close r i (take i (Close r ∷ [])) s node get
 
-pub one_node : (contests : List Contest) (rules : RuleSet) (k : ℕ) (p : PartialDeck) (r : Reason) (tree : List (Node Label Reason)) → p ≡ empty contests rules k → refutes p r ≡ true → IsTree tree → tree ≡ Close r ∷ [] → IsClosedTree contests rules k tree
+pub one_node : (contests : List Contest) (rules : RuleSet) (k : ℕ) (p : PartialDeck) (r : Reason)
+    (tree : List (Node Label Reason)) → p ≡ empty contests rules k → refutes p r ≡ true
+    → IsTree tree → tree ≡ Close r ∷ [] → IsClosedTree contests rules k tree
 one_node contests rules k p r tree begins holds lists is =
     subst (IsClosedTree contests rules k) (sym is) (record { lists = subst IsTree is lists; checks = subst (λ (q : PartialDeck). refutes q r ≡ true) begins holds; eager = only_close (empty contests rules k) r })
 
 -- the part of all contests
-all_there : (contests : List Contest) → part contests (range_with_len 0 (length contests)) ≡ contests
+all_there : (contests : List Contest)
+    → part contests (range_with_len 0 (length contests)) ≡ contests
 all_there contests =
     ext_get_or no_contest (part contests (range_with_len 0 (length contests))) contests (length-map-range_with_len (contest_at contests) 0 (length contests))
     (λ i lt. get_or-map-range_with_len (contest_at contests) 0 (length contests) i i no_contest (omega (arith, lt, length-map-range_with_len (contest_at contests) 0 (length contests))) (omega arith))
 
-all_part : (contests : List Contest) → IsShape contests → IsPart contests (range_with_len 0 (length contests))
+all_part : (contests : List Contest) → IsShape contests
+    → IsPart contests (range_with_len 0 (length contests))
 all_part contests is = record {
   some = omega (arith, is.some, length-range_with_len 0 (length contests));
   within = λ i d lt. omega (arith, lt, length-range_with_len 0 (length contests), get_or-range_with_len 0 (length contests) i d (omega (arith, lt, length-range_with_len 0 (length contests))));
   rising = λ i lt. omega (arith, lt, length-range_with_len 0 (length contests), get_or-range_with_len 0 (length contests) i 0 (omega (arith, lt, length-range_with_len 0 (length contests))), get_or-range_with_len 0 (length contests) (i + 1) 0 (omega (arith, lt, length-range_with_len 0 (length contests))));
 }
 
-pub whole_part : (contests : List Contest) (rules : RuleSet) (k : ℕ) (lower : LowerPart) → IsShape contests → k ≤ 1024 → lower.contests ≡ range_with_len 0 (length contests) → lower.size ≡ k → IsClosedTree contests rules k lower.tree → IsLowerOf contests rules k lower
+pub whole_part : (contests : List Contest) (rules : RuleSet) (k : ℕ) (lower : LowerPart)
+    → IsShape contests → k ≤ 1024 → lower.contests ≡ range_with_len 0 (length contests)
+    → lower.size ≡ k → IsClosedTree contests rules k lower.tree → IsLowerOf contests rules k lower
 whole_part contests rules k lower is few all size closed =
     let chosen : part contests lower.contests ≡ contests = ap (part contests) all ∙ all_there contests in
     let there : IsClosedTree (part contests lower.contests) rules lower.size lower.tree = subst (λ (c : List Contest). IsClosedTree c rules lower.size lower.tree) (sym chosen) (subst (λ (n : ℕ). IsClosedTree contests rules n lower.tree) (sym size) closed) in
@@ -65,7 +72,10 @@ whole_part contests rules k lower is few all size closed =
     }
 
 -- a tree over a part
-pub some_part : (contests : List Contest) (rules : RuleSet) (k : ℕ) (lower : LowerPart) (shape : List Contest) → k ≤ 1024 → IsPart contests lower.contests → shape ≡ part contests lower.contests → lower.size ≡ k → IsClosedTree shape rules k lower.tree → IsLowerOf contests rules k lower
+pub some_part : (contests : List Contest) (rules : RuleSet) (k : ℕ) (lower : LowerPart)
+    (shape : List Contest) → k ≤ 1024 → IsPart contests lower.contests
+    → shape ≡ part contests lower.contests → lower.size ≡ k → IsClosedTree shape rules k lower.tree
+    → IsLowerOf contests rules k lower
 some_part contests rules k lower shape few is at size closed =
     let there : IsClosedTree (part contests lower.contests) rules lower.size lower.tree = subst (λ (c : List Contest). IsClosedTree c rules lower.size lower.tree) at (subst (λ (n : ℕ). IsClosedTree shape rules n lower.tree) (sym size) closed) in
     record {
@@ -75,18 +85,23 @@ some_part contests rules k lower shape few is at size closed =
     }
 
 -- a lower part leaves no good deck of at most its size
-pub lower_leaves : (contests : List Contest) (rules : RuleSet) (lower : LowerPart) → IsShape contests → IsLower contests rules lower → NoGoodBelow contests rules (lower.size + 1)
+pub lower_leaves : (contests : List Contest) (rules : RuleSet) (lower : LowerPart)
+    → IsShape contests → IsLower contests rules lower → NoGoodBelow contests rules (lower.size + 1)
 lower_leaves contests rules lower is holds deck fewer good =
     no_good_below (part contests lower.contests) rules lower.size (tree_of lower.tree) (is_shape (part contests lower.contests) (part_shape contests lower.contests is holds.is_part)) holds.few holds.checks
     (restricted contests lower.contests deck) (omega (arith, fewer, length-map deck (cut contests lower.contests))) (good_restricted contests lower.contests rules deck holds.is_part good)
 
 -- and so does one for a size
-pub lower_for_leaves : (contests : List Contest) (rules : RuleSet) (k : ℕ) (lower : Option LowerPart) → IsShape contests → IsLowerFor contests rules k lower → NoGoodBelow contests rules k
+pub lower_for_leaves : (contests : List Contest) (rules : RuleSet) (k : ℕ)
+    (lower : Option LowerPart) → IsShape contests → IsLowerFor contests rules k lower
+    → NoGoodBelow contests rules k
 lower_for_leaves contests rules k None is none = λ deck fewer good. absurd (omega (arith, fewer, none))
 lower_for_leaves contests rules k (Some lower) is holds = subst (NoGoodBelow contests rules) holds.0 (lower_leaves contests rules lower is holds.1)
 
 -- a good deck at the first size that isn't closed
-pub least_there : (contests : List Contest) (rules : RuleSet) (max k : ℕ) (proved : Proved) (lower : Option LowerPart) → IsShape contests → k ≤ max → IsGoodOf contests rules k proved → IsLowerFor contests rules k lower → IsLeast contests rules max proved lower
+pub least_there : (contests : List Contest) (rules : RuleSet) (max k : ℕ) (proved : Proved)
+    (lower : Option LowerPart) → IsShape contests → k ≤ max → IsGoodOf contests rules k proved
+    → IsLowerFor contests rules k lower → IsLeast contests rules max proved lower
 least_there contests rules max k proved lower is few good below =
     let at : IsLowerFor contests rules (length proved.deck.ballots) lower = subst (λ (n : ℕ). IsLowerFor contests rules n lower) (sym good.size) below in
     record {
@@ -99,5 +114,7 @@ least_there contests rules max k proved lower is few good below =
     }
 
 -- no size is left
-pub none_left : (contests : List Contest) (rules : RuleSet) (max : ℕ) (lower : LowerPart) → IsShape contests → IsLowerFor contests rules (max + 1) (Some lower) → max < most contests rules → IsNoneWithin contests rules max lower
+pub none_left : (contests : List Contest) (rules : RuleSet) (max : ℕ) (lower : LowerPart)
+    → IsShape contests → IsLowerFor contests rules (max + 1) (Some lower)
+    → max < most contests rules → IsNoneWithin contests rules max lower
 none_left contests rules max lower is holds plain = record { none = lower_for_leaves contests rules (max + 1) (Some lower) is holds; size = omega (arith, holds.0); is_lower = holds.1; plain = plain }

@@ -36,7 +36,8 @@ use Rattle.planner.proofs.Styles.{alike_below}
 
 module _ (s : PartialDeck) where
   -- a deck that was proved at a state, in the words of the state
-  good_there : (proved : Proved) → IsPartial s → IsShownProved s proved → IsGoodOf s.contests s.rules s.ballots proved
+  good_there : (proved : Proved) → IsPartial s → IsShownProved s proved
+      → IsGoodOf s.contests s.rules s.ballots proved
   good_there proved is h =
       let ballots : proved.deck.ballots ≡ shown s = ap (λ (d : Ballots). d.ballots) h.deck in
       let tree : IsRobustTree s.contests proved.deck.ballots proved.robust = subst (λ (d : List (List Bool)). IsRobustTree s.contests d proved.robust) (sym ballots) h.tree in
@@ -52,7 +53,12 @@ module _ (s : PartialDeck) where
       }
 
   -- a deck that was left open at a state
-  open_there : (budget : ℕ) (attempt : Attempt) → IsShownOpen budget s attempt → (IsAttackedDeck s.contests s.rules s.ballots attempt.deck × IsOpenAttack s.contests attempt.deck.ballots budget attempt.tree) × (IsGapless attempt.tree × NoCheap (decided_as s.contests s.rules s.ballots attempt.deck.ballots)) × ¬ (3 * factorial (target_count s.contests) ≤ budget)
+  open_there : (budget : ℕ) (attempt : Attempt) → IsShownOpen budget s attempt
+      → (IsAttackedDeck s.contests s.rules s.ballots attempt.deck
+      × IsOpenAttack s.contests attempt.deck.ballots budget attempt.tree)
+      × (IsGapless attempt.tree × NoCheap
+      (decided_as s.contests s.rules s.ballots attempt.deck.ballots))
+      × ¬ (3 * factorial (target_count s.contests) ≤ budget)
   open_there budget attempt h =
       let ballots : attempt.deck.ballots ≡ shown s = ap (λ (d : Ballots). d.ballots) h.deck in
       let left = shown_left s h.is h.complete h.none in (
@@ -70,7 +76,10 @@ module _ (s : PartialDeck) where
       )
 
 module _ (contests : List Contest) (rules : RuleSet) (k budget b : ℕ) (kept : Buffer Reason) (root : PartialDeck) (chose : kept ≡ buffer [] 64) (same : b ≡ budget) (begins : root ≡ empty contests rules k) where
-  pub found_good : (s : PartialDeck) (proved : Proved) → IsFound deck_steps (λ q. IsPartial q) (λ q. IsComplete q) (λ q v. Solves q v) marks_as_numbers (deck_habits kept.capacity b) root s proved → IsGoodOf contests rules k proved
+  pub found_good : (s : PartialDeck) (proved : Proved)
+      → IsFound deck_steps (λ q. IsPartial q) (λ q. IsComplete q) (λ q v. Solves q v)
+      marks_as_numbers (deck_habits kept.capacity b) root s proved
+      → IsGoodOf contests rules k proved
   found_good s proved found =
       let alike = alike_below (λ q. IsPartial q) root s found.lies_below in
       let there = good_there s proved found.is_own found.proved in
@@ -78,7 +87,9 @@ module _ (contests : List Contest) (rules : RuleSet) (k budget b : ℕ) (kept : 
       (subst (λ (r : RuleSet). IsGoodOf s.contests r k proved) (alike.rules ∙ ap (λ (p : PartialDeck). p.rules) begins)
       (subst (λ (m : ℕ). IsGoodOf s.contests s.rules m proved) (alike.ballots ∙ ap (λ (p : PartialDeck). p.ballots) begins) there))
 
-  pub halted_open : (memory : List Reason) (nodes : List (Node Label Reason)) (attempt : Attempt) → IsHalted deck_steps (λ q. IsPartial q) (deck_habits kept.capacity b) root memory nodes attempt
+  pub halted_open : (memory : List Reason) (nodes : List (Node Label Reason)) (attempt : Attempt)
+      → IsHalted deck_steps (λ q. IsPartial q) (deck_habits kept.capacity b) root memory nodes
+      attempt
       → IsSpentAt contests rules k budget (Deck attempt.deck attempt.tree)
   halted_open memory nodes attempt halted =
       let s = halted.state in
@@ -91,20 +102,28 @@ module _ (contests : List Contest) (rules : RuleSet) (k budget b : ℕ) (kept : 
       (subst (λ (m : ℕ). P s.contests s.rules m budget) (alike.ballots ∙ ap (λ (p : PartialDeck). p.ballots) begins)
       (subst (λ (x : ℕ). P s.contests s.rules s.ballots x) same there)))
 
-  follows_eager : (later : List Reason) (nodes : List (Node Label Reason)) → Follows (deck_habits kept.capacity b) deck_steps root kept.items later nodes → Follows (deck_habits 64 b) deck_steps (empty contests rules k) [] later nodes
+  follows_eager : (later : List Reason) (nodes : List (Node Label Reason))
+      → Follows (deck_habits kept.capacity b) deck_steps root kept.items later nodes
+      → Follows (deck_habits 64 b) deck_steps (empty contests rules k) [] later nodes
   follows_eager later nodes follows =
       subst (λ (p : PartialDeck). Follows (deck_habits 64 b) deck_steps p [] later nodes) begins
       (subst (λ (x : Buffer Reason). Follows (deck_habits x.capacity b) deck_steps root x.items later nodes) chose follows)
 
-  pub closed_eager : (later : List Reason) (nodes : List (Node Label Reason)) → IsTree nodes → Checks deck_steps root (tree_of nodes) → Follows (deck_habits kept.capacity b) deck_steps root kept.items later nodes → IsClosedTree contests rules k nodes
+  pub closed_eager : (later : List Reason) (nodes : List (Node Label Reason)) → IsTree nodes
+      → Checks deck_steps root (tree_of nodes)
+      → Follows (deck_habits kept.capacity b) deck_steps root kept.items later nodes
+      → IsClosedTree contests rules k nodes
   closed_eager later nodes lists checks follows = record {
     lists = lists;
     checks = subst (λ (p : PartialDeck). Checks deck_steps p (tree_of nodes)) begins checks;
     eager = eager_tree b (empty contests rules k) later nodes (follows_eager later nodes follows);
   }
 
-  pub spent_open : (later : List Reason) (nodes : List (Node Label Reason)) → IsOpenTree deck_steps root budget nodes → IsGapless nodes → Follows (deck_habits kept.capacity b) deck_steps root kept.items later nodes
-      → IsSpentLicense contests rules k budget (Tree nodes) × IsSearchedLicense contests rules k (Tree nodes)
+  pub spent_open : (later : List Reason) (nodes : List (Node Label Reason))
+      → IsOpenTree deck_steps root budget nodes → IsGapless nodes
+      → Follows (deck_habits kept.capacity b) deck_steps root kept.items later nodes
+      → IsSpentLicense contests rules k budget (Tree nodes)
+      × IsSearchedLicense contests rules k (Tree nodes)
   spent_open later nodes tree gapless follows = (
     subst (λ (p : PartialDeck). IsOpenTree deck_steps p budget nodes) begins tree,
     (gapless, eager_tree b (empty contests rules k) later nodes (follows_eager later nodes follows)),

@@ -15,9 +15,12 @@ use Rattle.planner.specs.Answer.{most}
 use Rattle.planner.specs.Searched.{IsGoodOf}
 
 -- the plain deck with a tree that shows that it is robust
-pub plain_good : (contests : List Contest) (rules : RuleSet) (deck : Ballots) (tree : List (Node ℕ Skipped)) → deck ≡ plain_ballots (target_count contests) rules
-    → IsRobust contests (plain_ballots (target_count contests) rules).ballots → IsRobustTree contests (plain_ballots (target_count contests) rules).ballots tree
-    → IsCanonical contests (plain_ballots (target_count contests) rules).ballots → Obeys contests rules (plain_ballots (target_count contests) rules).ballots
+pub plain_good : (contests : List Contest) (rules : RuleSet) (deck : Ballots)
+    (tree : List (Node ℕ Skipped)) → deck ≡ plain_ballots (target_count contests) rules
+    → IsRobust contests (plain_ballots (target_count contests) rules).ballots
+    → IsRobustTree contests (plain_ballots (target_count contests) rules).ballots tree
+    → IsCanonical contests (plain_ballots (target_count contests) rules).ballots
+    → Obeys contests rules (plain_ballots (target_count contests) rules).ballots
     → IsGoodOf contests rules (most contests rules) (record { deck = deck; robust = tree })
 plain_good contests rules deck tree is robust checks canonical obeys =
     let P : Ballots → Type 0 = λ d. IsGoodOf contests rules (most contests rules) (record { deck = d; robust = tree }) in

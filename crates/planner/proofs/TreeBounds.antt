@@ -49,7 +49,8 @@ module _ {S B R : Type 0} (steps : Steps S B R) (own : S → Type 0) (size : S �
     (keeps : (s : S) (l : B) (n k : ℕ) → own s → steps.arity s l ≡ Some n → own (steps.kid s l k))
     (falls : (s : S) (l : B) (n k : ℕ) → own s → steps.arity s l ≡ Some n → size (steps.kid s l k) < size s) where
   mutual
-    pub nodes_few : (t : Rose B R) (s : S) → own s → ChecksWith true steps s t → count_by is_pick (preorder t) + 1 ≤ 2 ^ (size s + 1)
+    pub nodes_few : (t : Rose B R) (s : S) → own s → ChecksWith true steps s t
+        → count_by is_pick (preorder t) + 1 ≤ 2 ^ (size s + 1)
     nodes_few (Closed r) s o h = omega (arith, double (size s), pow_pos (size s))
     nodes_few Opened s o h = omega (arith, pow_pos (size s + 1))
     nodes_few (Forked l ts) s o h =
@@ -57,7 +58,9 @@ module _ {S B R : Type 0} (steps : Steps S B R) (own : S → Type 0) (size : S �
         let all = two_kids (count ts) (2 ^ size s) (count_by is_pick (preorder_all ts)) (few s l (count ts) h.0) kids (omega (arith, pow_pos (size s))) in
         omega (arith, all, sum_by-cons (λ (n : Node B R). cond (is_pick n) 1 0) (Fork l (count ts)) (preorder_all ts), double (size s))
 
-    pub kids_few : (ts : Roses B R) (s : S) (l : B) (from n : ℕ) → own s → steps.arity s l ≡ Some n → KidsCheckWith true steps s l from ts → count_by is_pick (preorder_all ts) + count ts ≤ count ts * 2 ^ size s
+    pub kids_few : (ts : Roses B R) (s : S) (l : B) (from n : ℕ) → own s → steps.arity s l ≡ Some n
+        → KidsCheckWith true steps s l from ts
+        → count_by is_pick (preorder_all ts) + count ts ≤ count ts * 2 ^ size s
     kids_few none s l from n o a h = omega arith
     kids_few (more t ts) s l from n o a h =
         let one = nodes_few t (steps.kid s l from) (keeps s l n from o a) h.0 in
@@ -71,11 +74,14 @@ module _ {S B R : Type 0} (steps : Steps S B R) (own : S → Type 0) (size : S �
 abbrev left : PartialDeck → ℕ
 left p = 2 * (p.ballots * target_count p.contests) - length p.steps
 
-one_more : (p : PartialDeck) (label : Label) (k : ℕ) → length (kid_of p label k).steps ≡ length p.steps + 1
+one_more : (p : PartialDeck) (label : Label) (k : ℕ)
+    → length (kid_of p label k).steps ≡ length p.steps + 1
 one_more p (MarkOf j t) k = length-append p.steps _
 one_more p (Split t x) k = by_kid (k == 0)
   where
-    by_kid : (first : Bool) → length (cond first (narrowed p t (lo p t) (x - 1)) (narrowed p t x (hi p t))).steps ≡ length p.steps + 1
+    by_kid : (first : Bool) → length
+        (cond first (narrowed p t (lo p t) (x - 1)) (narrowed p t x (hi p t))).steps
+        ≡ length p.steps + 1
     by_kid true = length-append p.steps _
     by_kid false = length-append p.steps _
 
@@ -83,7 +89,8 @@ two_or_none : (allowed : Bool) (n : ℕ) → kid_count allowed ≡ Some n → (a
 two_or_none true n h = let two : 2 ≡ n = cc in (refl, omega (arith, two))
 two_or_none false n h = cc
 
-less_left : (p : PartialDeck) (label : Label) (k : ℕ) → IsPartial p → is_allowed p label ≡ true → left (kid_of p label k) < left p
+less_left : (p : PartialDeck) (label : Label) (k : ℕ) → IsPartial p → is_allowed p label ≡ true
+    → left (kid_of p label k) < left p
 less_left p label k is allowed =
     let kid = kid_of p label k in
     let alike = alike_kid p label k in
@@ -91,8 +98,11 @@ less_left p label k is allowed =
     let same : kid.ballots * target_count kid.contests ≡ p.ballots * target_count p.contests = λ i. alike.ballots i * target_count (alike.contests i) in
     omega (arith, fit, same, one_more p label k)
 
--- an open tree over the decks of k ballots has fewer than 2 to the power 2 k T + 1 Close and Fork nodes
-pub open_tree_few : (contests : List Contest) (rules : RuleSet) (k budget : ℕ) (nodes : List (Node Label Reason)) → IsShape contests → k ≤ 1024 → IsOpenTree deck_steps (empty contests rules k) budget nodes
+-- an open tree over the decks of k ballots has fewer than 2 to the power 2 k T + 1 Close and Fork
+-- nodes
+pub open_tree_few : (contests : List Contest) (rules : RuleSet) (k budget : ℕ)
+    (nodes : List (Node Label Reason)) → IsShape contests → k ≤ 1024
+    → IsOpenTree deck_steps (empty contests rules k) budget nodes
     → budget < 2 ^ (2 * (k * target_count contests) + 1)
 open_tree_few contests rules k budget nodes shape few open_tree =
     let bound = nodes_few deck_steps (λ p. IsPartial p) left
@@ -106,7 +116,8 @@ open_tree_few contests rules k budget nodes shape few open_tree =
     omega (arith, most, same)
 
 -- no budget is within reach and ample
-pub not_ample : (contests : List Contest) (k max budget : ℕ) (license : License) → k ≤ max → IsInReach contests k budget license → IsAmple contests max budget → ⊥
+pub not_ample : (contests : List Contest) (k max budget : ℕ) (license : License) → k ≤ max
+    → IsInReach contests k budget license → IsAmple contests max budget → ⊥
 not_ample contests k max budget (Tree tree) few reach ample =
     let width : 2 * (k * target_count contests) + 1 ≤ 2 * (max * target_count contests) + 1 = omega (arith, mul-le-mul_right (target_count contests) few) in
     let grows : 2 ^ (2 * (k * target_count contests) + 1) ≤ 2 ^ (2 * (max * target_count contests) + 1) = pow_mono {i = 2 * (k * target_count contests) + 1} {j = 2 * (max * target_count contests) + 1} width in

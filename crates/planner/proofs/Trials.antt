@@ -21,7 +21,8 @@ module _ (contests : List Contest) (rules : RuleSet) (deck copy : Ballots) (is :
   fits : Fits (target_count contests) deck.ballots
   fits = subst (λ (n : ℕ). Fits n deck.ballots) targets is.fits
 
-  pub copy_good : (tree : List (Node ℕ Skipped)) → IsDeck copy → copy.targets ≡ deck.targets → IsCanonical contests copy.ballots → Obeys contests rules deck.ballots
+  pub copy_good : (tree : List (Node ℕ Skipped)) → IsDeck copy → copy.targets ≡ deck.targets
+      → IsCanonical contests copy.ballots → Obeys contests rules deck.ballots
       → IsRobust contests copy.ballots → IsRobustTree contests copy.ballots tree → IsGoodOf contests rules (length deck.ballots) (record { deck = copy; robust = tree })
   copy_good tree copied same canonical obeys robust checks = record {
     is_proved = record {
@@ -38,9 +39,14 @@ module _ (contests : List Contest) (rules : RuleSet) (deck copy : Ballots) (is :
     size = reordered_size contests deck.ballots copy.ballots reordered;
   }
 
-  pub copy_evaded : (budget : ℕ) (s : List ℕ) → (IsGood contests rules copy.ballots ↔ IsGood contests rules deck.ballots) → Evades contests copy.ballots s → Obeys contests rules deck.ballots → IsTriedDeck contests budget deck.ballots
+  pub copy_evaded : (budget : ℕ) (s : List ℕ)
+      → (IsGood contests rules copy.ballots ↔ IsGood contests rules deck.ballots)
+      → Evades contests copy.ballots s → Obeys contests rules deck.ballots
+      → IsTriedDeck contests budget deck.ballots
   copy_evaded budget s both evades obeys =
       inl (λ robust. evades.other ((both.1 (record { fits = fits; robust = robust; obeys = obeys })).robust s evades.is evades.same))
 
-  pub copy_open : (budget : ℕ) (tree : List (Node ℕ Skipped)) → IsCanonical contests copy.ballots → IsOpenAttack contests copy.ballots budget tree → IsGapless tree → IsTriedDeck contests budget deck.ballots
+  pub copy_open : (budget : ℕ) (tree : List (Node ℕ Skipped)) → IsCanonical contests copy.ballots
+      → IsOpenAttack contests copy.ballots budget tree → IsGapless tree
+      → IsTriedDeck contests budget deck.ballots
   copy_open budget tree canonical attack gapless = inr (copy.ballots, tree, record { canonical = canonical; reordered = reordered; attack = attack; gapless = gapless })

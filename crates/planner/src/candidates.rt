@@ -8,7 +8,8 @@ use deck_weaver::weave;
 use lat_base::{Rules, Shape};
 use std::alloc::{AllocError, Global};
 
-/// A good canonical deck of `k` ballots with its tree, if one is woven. The only error is want of memory.
+/// A good canonical deck of `k` ballots with its tree, if one is woven. The only error is want of
+/// memory.
 pub(crate) fn try_candidate(
     alloc: Global,
     shape: &Shape,

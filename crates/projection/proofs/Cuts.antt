@@ -24,13 +24,16 @@ use Rattle.readings.proofs.Relabelling.{total_map}
 use Rattle.projection.proofs.Embedding.{there, chosen_at, part_long, part_contest, there_of, there_at, there_in}
 
 -- a cut ballot is the ballot read with the targets of the chosen contests
-pub cut_reading : (contests : List Contest) (chosen : List ℕ) (b : List Bool) → All (λ c. c < length contests) chosen → length b ≡ target_count contests → cut contests chosen b ≡ reading b (flat_map (targets_of contests) chosen)
+pub cut_reading : (contests : List Contest) (chosen : List ℕ) (b : List Bool)
+    → All (λ c. c < length contests) chosen → length b ≡ target_count contests
+    → cut contests chosen b ≡ reading b (flat_map (targets_of contests) chosen)
 cut_reading contests [] b within long = refl
 cut_reading contests (c ∷ chosen) b within long =
     (λ i. marks_are contests b c (All-head (λ (x : ℕ). x < length contests) c chosen within) long i ++ cut_reading contests chosen b (All-tail (λ (x : ℕ). x < length contests) c chosen within) long i)
     ∙ sym (map-append (λ t. is_marked b t) (targets_of contests c) (flat_map (targets_of contests) chosen))
 
-pub targets_long : (contests : List Contest) (chosen : List ℕ) → length (flat_map (targets_of contests) chosen) ≡ target_count (part contests chosen)
+pub targets_long : (contests : List Contest) (chosen : List ℕ)
+    → length (flat_map (targets_of contests) chosen) ≡ target_count (part contests chosen)
 targets_long contests [] = refl
 targets_long contests (c ∷ chosen) =
     omega (
@@ -42,7 +45,9 @@ targets_long contests (c ∷ chosen) =
     )
 
 -- the targets of the chosen contests are those of the part
-targets_made : (contests : List Contest) (chosen : List ℕ) → IsPart contests chosen → flat_map (targets_of contests) chosen ≡ made (target_count (part contests chosen)) (there contests chosen)
+targets_made : (contests : List Contest) (chosen : List ℕ) → IsPart contests chosen
+    → flat_map (targets_of contests) chosen
+    ≡ made (target_count (part contests chosen)) (there contests chosen)
 targets_made contests chosen is =
     let m = target_count (part contests chosen) in
     same_lists (flat_map (targets_of contests) chosen) (made m (there contests chosen)) (targets_long contests chosen ∙ sym (made_long m (there contests chosen)))
@@ -61,23 +66,34 @@ targets_made contests chosen is =
     ∙ (sym t.nth ∙ sym (get_or-map-range_with_len (there contests chosen) 0 m u u d u_in (omega arith))))))
 
 -- so a cut ballot has at each target the mark of that target of the style
-pub cut_made : (contests : List Contest) (chosen : List ℕ) (b : List Bool) → IsPart contests chosen → length b ≡ target_count contests → cut contests chosen b ≡ reading b (made (target_count (part contests chosen)) (there contests chosen))
+pub cut_made : (contests : List Contest) (chosen : List ℕ) (b : List Bool) → IsPart contests chosen
+    → length b ≡ target_count contests
+    → cut contests chosen b ≡ reading b
+    (made (target_count (part contests chosen)) (there contests chosen))
 cut_made contests chosen b is long = cut_reading contests chosen b is.within long ∙ ap (reading b) (targets_made contests chosen is)
 
-pub mark_made : (b : List Bool) (n : ℕ) (f : ℕ → ℕ) (u : ℕ) → u < n → is_marked (reading b (made n f)) u ≡ is_marked b (f u)
+pub mark_made : (b : List Bool) (n : ℕ) (f : ℕ → ℕ) (u : ℕ) → u < n
+    → is_marked (reading b (made n f)) u ≡ is_marked b (f u)
 mark_made b n f u lt = reading_at b (made n f) u (omega (arith, lt, made_long n f)) ∙ ap (is_marked b) (made_at n f u lt)
 
-pub cut_long : (contests : List Contest) (chosen : List ℕ) (b : List Bool) → IsPart contests chosen → length b ≡ target_count contests → length (cut contests chosen b) ≡ target_count (part contests chosen)
+pub cut_long : (contests : List Contest) (chosen : List ℕ) (b : List Bool) → IsPart contests chosen
+    → length b ≡ target_count contests
+    → length (cut contests chosen b) ≡ target_count (part contests chosen)
 cut_long contests chosen b is long =
     ap length (cut_made contests chosen b is long) ∙ (reading_long b (made (target_count (part contests chosen)) (there contests chosen)) ∙ made_long (target_count (part contests chosen)) (there contests chosen))
 
-cut_mark : (contests : List Contest) (chosen : List ℕ) (b : List Bool) (u : ℕ) → IsPart contests chosen → length b ≡ target_count contests → u < target_count (part contests chosen) → is_marked (cut contests chosen b) u ≡ is_marked b (there contests chosen u)
+cut_mark : (contests : List Contest) (chosen : List ℕ) (b : List Bool) (u : ℕ)
+    → IsPart contests chosen → length b ≡ target_count contests
+    → u < target_count (part contests chosen)
+    → is_marked (cut contests chosen b) u ≡ is_marked b (there contests chosen u)
 cut_mark contests chosen b u is long lt =
     ap (λ (r : List Bool). is_marked r u) (cut_made contests chosen b is long) ∙ mark_made b (target_count (part contests chosen)) (there contests chosen) u lt
 
 -- a contest of the part has as many marks as it has in the style
-pub cut_marks : (contests : List Contest) (chosen : List ℕ) (b : List Bool) (q : ℕ) → IsPart contests chosen → length b ≡ target_count contests → q < length chosen
-    → mark_count (part contests chosen) (cut contests chosen b) q ≡ mark_count contests b (chosen_at chosen q)
+pub cut_marks : (contests : List Contest) (chosen : List ℕ) (b : List Bool) (q : ℕ)
+    → IsPart contests chosen → length b ≡ target_count contests → q < length chosen
+    → mark_count (part contests chosen) (cut contests chosen b) q
+    ≡ mark_count contests b (chosen_at chosen q)
 cut_marks contests chosen b q is long lt =
     let ps = part contests chosen in
     let c = chosen_at chosen q in
@@ -93,8 +109,11 @@ cut_marks contests chosen b q is long lt =
     ∙ (lists ∙ (ap (λ (n : ℕ). map (λ t. is_marked b t) (range_with_len (first_target contests c) n)) as_many ∙ sym (marks_are contests b c (is.within q 0 lt) long))))
 
 -- and each target the votes that it has in the style
-pub cut_votes : (contests : List Contest) (chosen : List ℕ) (b : List Bool) (u : ℕ) → IsPart contests chosen → length b ≡ target_count contests → u < target_count (part contests chosen)
-    → votes_for (part contests chosen) (cut contests chosen b) u ≡ votes_for contests b (there contests chosen u)
+pub cut_votes : (contests : List Contest) (chosen : List ℕ) (b : List Bool) (u : ℕ)
+    → IsPart contests chosen → length b ≡ target_count contests
+    → u < target_count (part contests chosen)
+    → votes_for (part contests chosen) (cut contests chosen b) u
+    ≡ votes_for contests b (there contests chosen u)
 cut_votes contests chosen b u is long lt =
     let ps = part contests chosen in
     let q = contest_of ps u in
@@ -105,8 +124,11 @@ cut_votes contests chosen b u is long lt =
     let limits : (contest_at ps q).limit ≡ (contest_at contests (contest_of contests (there contests chosen u))).limit = ap (λ (x : Contest). x.limit) (part_contest contests chosen q t.number ∙ ap (contest_at contests) of) in
     λ i. mark i && not (nat_lt (limits i) (counts i))
 
-pub cut_total : (contests : List Contest) (chosen : List ℕ) (deck : List (List Bool)) (u : ℕ) → IsPart contests chosen → Fits (target_count contests) deck → u < target_count (part contests chosen)
-    → own_total (part contests chosen) (restricted contests chosen deck) u ≡ own_total contests deck (there contests chosen u)
+pub cut_total : (contests : List Contest) (chosen : List ℕ) (deck : List (List Bool)) (u : ℕ)
+    → IsPart contests chosen → Fits (target_count contests) deck
+    → u < target_count (part contests chosen)
+    → own_total (part contests chosen) (restricted contests chosen deck) u
+    ≡ own_total contests deck (there contests chosen u)
 cut_total contests chosen deck u is fits lt =
     let ps = part contests chosen in
     let m = target_count ps in
@@ -118,14 +140,18 @@ cut_total contests chosen deck u is fits lt =
     ∙ (cut_votes contests chosen b u is (fits j d at) lt ∙ ap (λ (r : List Bool). votes_for contests r (there contests chosen u)) (sym (reading_identity b (target_count contests) (fits j d at)))))
 
 -- each of the targets of the chosen contests is a target of the style
-pub targets_within : (contests : List Contest) (chosen : List ℕ) → IsPart contests chosen → All (λ t. t < target_count contests) (flat_map (targets_of contests) chosen)
+pub targets_within : (contests : List Contest) (chosen : List ℕ) → IsPart contests chosen
+    → All (λ t. t < target_count contests) (flat_map (targets_of contests) chosen)
 targets_within contests chosen is u d lt =
     let m = target_count (part contests chosen) in
     let u_in : u < m = omega (arith, lt, targets_long contests chosen) in
     subst (λ (t : ℕ). t < target_count contests) (sym (ap (λ (s : List ℕ). get_or s u d) (targets_made contests chosen is) ∙ get_or-map-range_with_len (there contests chosen) 0 m u u d u_in (omega arith))) (there_in contests chosen u is u_in)
 
 -- a deck that is read with them is cut
-pub deck_cut : (contests : List Contest) (chosen : List ℕ) (deck : List (List Bool)) → IsPart contests chosen → Fits (target_count contests) deck → map (λ b. reading b (flat_map (targets_of contests) chosen)) deck ≡ restricted contests chosen deck
+pub deck_cut : (contests : List Contest) (chosen : List ℕ) (deck : List (List Bool))
+    → IsPart contests chosen → Fits (target_count contests) deck
+    → map (λ b. reading b (flat_map (targets_of contests) chosen)) deck
+    ≡ restricted contests chosen deck
 deck_cut contests chosen deck is fits =
     let f : List Bool → List Bool = λ b. reading b (flat_map (targets_of contests) chosen) in
     same_lists (map f deck) (restricted contests chosen deck) (length-map deck f ∙ sym (length-map deck (cut contests chosen)))
@@ -134,7 +160,8 @@ deck_cut contests chosen deck is fits =
     get_or-map f deck k d d k_in ∙ (sym (cut_reading contests chosen (get_or deck k d) is.within (fits k d k_in)) ∙ sym (get_or-map (cut contests chosen) deck k d d k_in)))
 
 -- one more target at the end
-pub pushed : (old now new : List ℕ) (a t : ℕ) → a ≤ t → now ≡ old ++ range_with_len a (t - a) → new ≡ now ++ t ∷ [] → new ≡ old ++ range_with_len a (t + 1 - a)
+pub pushed : (old now new : List ℕ) (a t : ℕ) → a ≤ t → now ≡ old ++ range_with_len a (t - a)
+    → new ≡ now ++ t ∷ [] → new ≡ old ++ range_with_len a (t + 1 - a)
 pushed old now new a t le so_far more =
     let next : suc (t - a) ≡ t + 1 - a = omega (arith, le) in
     let last : a + (t - a) ≡ t = omega (arith, le) in

@@ -28,10 +28,16 @@ use Rattle.projection.proofs.Embedding.{there, here, chosen_at, is_chosen, part_
 use Rattle.projection.proofs.Cuts.{cut_made, mark_made, cut_long, cut_marks, cut_votes, cut_total}
 use Rattle.projection.proofs.Extended.{extended, extended_there, extended_other, extended_turn, by_chosen}
 
--- what is read under an extended misassignment and then cut is cut and then read under the misassignment
-read_then_cut : (contests : List Contest) (chosen : List ℕ) (s : List ℕ) (b : List Bool) → IsPart contests chosen → length b ≡ target_count contests → length s ≡ target_count (part contests chosen)
-    → ((u : ℕ) → u < target_count (part contests chosen) → source s u < target_count (part contests chosen))
-    → cut contests chosen (reading b (made (target_count contests) (extended contests chosen (source s)))) ≡ reading (cut contests chosen b) s
+-- what is read under an extended misassignment and then cut is cut and then read under the
+-- misassignment
+read_then_cut : (contests : List Contest) (chosen : List ℕ) (s : List ℕ) (b : List Bool)
+    → IsPart contests chosen → length b ≡ target_count contests
+    → length s ≡ target_count (part contests chosen)
+    → ((u : ℕ) → u < target_count (part contests chosen)
+    → source s u < target_count (part contests chosen))
+    → cut contests chosen (reading b
+    (made (target_count contests) (extended contests chosen (source s))))
+    ≡ reading (cut contests chosen b) s
 read_then_cut contests chosen s b is long s_long within =
     let n = target_count contests in
     let m = target_count (part contests chosen) in
@@ -50,8 +56,11 @@ read_then_cut contests chosen s b is long s_long within =
     ∙ (sym (reading_at (cut contests chosen b) s u (omega (arith, u_in, s_long))) ∙ get_or_default (reading (cut contests chosen b) s) u false d (omega (arith, u_in, reading_long (cut contests chosen b) s, s_long))))))))))
 
 -- the votes of a target that isn't of the part stay
-votes_stay : (contests : List Contest) (chosen : List ℕ) (s : ℕ → ℕ) (b : List Bool) (w : ℕ) → length b ≡ target_count contests → w < target_count contests → is_chosen contests chosen w ≡ false
-    → votes_for contests (reading b (made (target_count contests) (extended contests chosen s))) w ≡ votes_for contests b w
+votes_stay : (contests : List Contest) (chosen : List ℕ) (s : ℕ → ℕ) (b : List Bool) (w : ℕ)
+    → length b ≡ target_count contests → w < target_count contests
+    → is_chosen contests chosen w ≡ false
+    → votes_for contests (reading b (made (target_count contests) (extended contests chosen s))) w
+    ≡ votes_for contests b w
 votes_stay contests chosen s b w long lt other =
     let n = target_count contests in
     let f = extended contests chosen s in
@@ -70,7 +79,9 @@ votes_stay contests chosen s b w long lt other =
     λ i. mark i && not (nat_lt (contest_at contests c).limit (counts i))
 
 -- a robust deck is robust for the part
-robust_part : (contests : List Contest) (chosen : List ℕ) (deck : List (List Bool)) → IsPart contests chosen → Fits (target_count contests) deck → IsRobust contests deck → IsRobust (part contests chosen) (restricted contests chosen deck)
+robust_part : (contests : List Contest) (chosen : List ℕ) (deck : List (List Bool))
+    → IsPart contests chosen → Fits (target_count contests) deck → IsRobust contests deck
+    → IsRobust (part contests chosen) (restricted contests chosen deck)
 robust_part contests chosen deck is fits robust s s_is same =
     let ps = part contests chosen in
     let n = target_count contests in
@@ -108,7 +119,8 @@ blank_dropped (suc n) [] h = refl
 blank_dropped (suc n) (mark ∷ b) h = blank_dropped n b (and_parts (not mark) (is_blank b) h).1
 
 -- a blank ballot that is cut is blank
-blank_cut : (contests : List Contest) (chosen : List ℕ) (b : List Bool) → is_blank b ≡ true → is_blank (cut contests chosen b) ≡ true
+blank_cut : (contests : List Contest) (chosen : List ℕ) (b : List Bool) → is_blank b ≡ true
+    → is_blank (cut contests chosen b) ≡ true
 blank_cut contests [] b h = refl
 blank_cut contests (c ∷ chosen) b h =
     list_all-append not (marks_in contests b c) (cut contests chosen b)
@@ -116,7 +128,9 @@ blank_cut contests (c ∷ chosen) b h =
     (blank_taken (first_target contests (c + 1) - first_target contests c) (drop (first_target contests c) b) (blank_dropped (first_target contests c) b h)) (blank_cut contests chosen b h)
 
 -- it obeys the rules there
-obeys_part : (contests : List Contest) (chosen : List ℕ) (rules : RuleSet) (deck : List (List Bool)) → IsPart contests chosen → Fits (target_count contests) deck → Obeys contests rules deck → Obeys (part contests chosen) rules (restricted contests chosen deck)
+obeys_part : (contests : List Contest) (chosen : List ℕ) (rules : RuleSet) (deck : List (List Bool))
+    → IsPart contests chosen → Fits (target_count contests) deck → Obeys contests rules deck
+    → Obeys (part contests chosen) rules (restricted contests chosen deck)
 obeys_part contests chosen rules deck is fits obeys =
     let ps = part contests chosen in
     let m = target_count ps in
@@ -145,7 +159,9 @@ obeys_part contests chosen rules deck is fits obeys =
     }
 
 -- a good deck that is restricted to a part is good there
-pub good_restricted : (contests : List Contest) (chosen : List ℕ) (rules : RuleSet) (deck : List (List Bool)) → IsPart contests chosen → IsGood contests rules deck → IsGood (part contests chosen) rules (restricted contests chosen deck)
+pub good_restricted : (contests : List Contest) (chosen : List ℕ) (rules : RuleSet)
+    (deck : List (List Bool)) → IsPart contests chosen → IsGood contests rules deck
+    → IsGood (part contests chosen) rules (restricted contests chosen deck)
 good_restricted contests chosen rules deck is good = record {
   fits = λ k d lt.
       let k_in : k < length deck = omega (arith, lt, length-map deck (cut contests chosen)) in

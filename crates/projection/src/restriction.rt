@@ -42,7 +42,10 @@ pub fn restrict(
 ) -> Result<Deck, AllocError>
     requires deck { deck.now.targets ≡ target_count shape.now }
     requires part { IsPart shape.now contests.now }
-    ensures { IfOk result (λ cut. cut ≡ record { targets = target_count (part shape.now contests.now); ballots = restricted shape.now contests.now deck.now.ballots }) }
+    ensures { IfOk result (λ cut. cut ≡ record {
+      targets = target_count (part shape.now contests.now);
+      ballots = restricted shape.now contests.now deck.now.ballots;
+    }) }
 {
     let _ballots = deck.ballots();
     let _contests = shape.contests();

@@ -21,16 +21,21 @@ moved_by contests c d e v = cond (e == c) (v - first_target contests c + first_t
 -- where a target of contest e goes
 record Goes (contests : List Contest) (c d e v : ℕ) : Type 0 where
   pub to : IsOf contests (exchange c d e) (moved_by contests c d e v)
-  pub nth : moved_by contests c d e v ≡ first_target contests (exchange c d e) + (v - first_target contests e)
+  pub nth : moved_by contests c d e v
+      ≡ first_target contests (exchange c d e) + (v - first_target contests e)
 
-make_goes : (contests : List Contest) (c d e g v : ℕ) → IsOf contests e v → g < length contests → contest_at contests g ≡ contest_at contests e → exchange c d e ≡ g → moved_by contests c d e v ≡ first_target contests g + (v - first_target contests e) → Goes contests c d e v
+make_goes : (contests : List Contest) (c d e g v : ℕ) → IsOf contests e v → g < length contests
+    → contest_at contests g ≡ contest_at contests e → exchange c d e ≡ g
+    → moved_by contests c d e v ≡ first_target contests g + (v - first_target contests e)
+    → Goes contests c d e v
 make_goes contests c d e g v a g_in shape turned moved = record {
   to = subst (λ (x : ℕ). IsOf contests x (moved_by contests c d e v)) (sym turned) (subst (IsOf contests g) (sym moved)
       (nth_is_of contests g (v - first_target contests e) g_in (omega (arith, a.from, a.to, first_next contests e a.contest, ap (λ (x : Contest). x.targets) shape))));
   nth = moved ∙ ap (λ (x : ℕ). first_target contests x + (v - first_target contests e)) (sym turned);
 }
 
-goes : (contests : List Contest) (c d e v : ℕ) → c < length contests → d < length contests → contest_at contests c ≡ contest_at contests d → IsOf contests e v → Goes contests c d e v
+goes : (contests : List Contest) (c d e v : ℕ) → c < length contests → d < length contests
+    → contest_at contests c ≡ contest_at contests d → IsOf contests e v → Goes contests c d e v
 goes contests c d e v c_in d_in shape a = by_test (e == c) (e == d) refl refl
   where
     by_test : (x y : Bool) → (e == c) ≡ x → (e == d) ≡ y → Goes contests c d e v
@@ -52,7 +57,8 @@ exchange_twice : (c d e : ℕ) → exchange c d (exchange c d e) ≡ e
 exchange_twice c d e = grind (arith, nat_tests)
 
 -- whole contests exchanged are so again
-moved_twice : (contests : List Contest) (c d v : ℕ) → c < length contests → d < length contests → contest_at contests c ≡ contest_at contests d → v < target_count contests
+moved_twice : (contests : List Contest) (c d v : ℕ) → c < length contests → d < length contests
+    → contest_at contests c ≡ contest_at contests d → v < target_count contests
     → exchange_contests contests c d (exchange_contests contests c d v) ≡ v
 moved_twice contests c d v c_in d_in shape h =
     let a = is_of contests v h in
@@ -66,16 +72,22 @@ moved_twice contests c d v c_in d_in shape h =
     ∙ (back.nth ∙ omega (arith, ap (first_target contests) again, g.nth, a.from))
 
 -- an exchange of contests goes through all targets
-pub contests_turn : (contests : List Contest) (c d : ℕ) → c < length contests → d < length contests → contest_at contests c ≡ contest_at contests d → IsTurn (target_count contests) (exchange_contests contests c d) (exchange_contests contests c d)
+pub contests_turn : (contests : List Contest) (c d : ℕ) → c < length contests → d < length contests
+    → contest_at contests c ≡ contest_at contests d
+    → IsTurn (target_count contests) (exchange_contests contests c d)
+    (exchange_contests contests c d)
 contests_turn contests c d c_in d_in shape = record { within = inside; back_within = inside; back = λ v h. moved_twice contests c d v c_in d_in shape h; forth = λ v h. moved_twice contests c d v c_in d_in shape h }
   where
-    inside : (v : ℕ) → v < target_count contests → exchange_contests contests c d v < target_count contests
+    inside : (v : ℕ) → v < target_count contests
+        → exchange_contests contests c d v < target_count contests
     inside v h =
         let g = goes contests c d (contest_of contests v) v c_in d_in shape (is_of contests v h) in
         omega (arith, g.to.to, first_le contests (exchange c d (contest_of contests v) + 1))
 
 -- an exchange of contests of equal shape is structural
-pub contests_structural : (contests : List Contest) (c d : ℕ) → c < length contests → d < length contests → contest_at contests c ≡ contest_at contests d → IsStructural contests (exchange_contests contests c d) (exchange c d)
+pub contests_structural : (contests : List Contest) (c d : ℕ) → c < length contests
+    → d < length contests → contest_at contests c ≡ contest_at contests d
+    → IsStructural contests (exchange_contests contests c d) (exchange c d)
 contests_structural contests c d c_in d_in shape = record {
   within = λ e h. grind (arith, nat_tests, c_in, d_in, h);
   shape = λ e h. shapes e (e == c) (e == d) refl refl;
@@ -83,7 +95,8 @@ contests_structural contests c d c_in d_in shape = record {
   contest = λ v h. contest_is contests (exchange c d (contest_of contests v)) (exchange_contests contests c d v) (goes contests c d (contest_of contests v) v c_in d_in shape (is_of contests v h)).to;
 }
   where
-    shapes : (e : ℕ) (x y : Bool) → (e == c) ≡ x → (e == d) ≡ y → contest_at contests (cond (e == c) d (cond (e == d) c e)) ≡ contest_at contests e
+    shapes : (e : ℕ) (x y : Bool) → (e == c) ≡ x → (e == d) ≡ y
+        → contest_at contests (cond (e == c) d (cond (e == d) c e)) ≡ contest_at contests e
     shapes e true y p q =
         let same : e ≡ c = grind (arith, nat_tests, p) in
         ap (λ (x : Bool). contest_at contests (cond x d (cond (e == d) c e))) p ∙ (sym shape ∙ ap (contest_at contests) (sym same))
@@ -92,7 +105,9 @@ contests_structural contests c d c_in d_in shape = record {
         (λ i. contest_at contests (cond (p i) d (cond (q i) c e))) ∙ (shape ∙ ap (contest_at contests) (sym same))
     shapes e false false p q = λ i. contest_at contests (cond (p i) d (cond (q i) c e))
 
-    moved : (e : ℕ) → e < length contests → map (exchange_contests contests c d) (targets_of contests e) ≡ targets_of contests (exchange c d e)
+    moved : (e : ℕ) → e < length contests
+        → map (exchange_contests contests c d) (targets_of contests e)
+        ≡ targets_of contests (exchange c d e)
     moved e h =
         range_moved (exchange_contests contests c d) (first_target contests e) (first_target contests (exchange c d e)) (contest_at contests e).targets
         (λ i lt.
@@ -103,8 +118,13 @@ contests_structural contests c d c_in d_in shape = record {
         ∙ ap (range_with_len (first_target contests (exchange c d e))) (ap (λ (x : Contest). x.targets) (sym (shapes e (e == c) (e == d) refl refl)))
 
 -- in a robust deck two contests of equal shape don't have equal lists of totals
-pub twins_differ : (contests : List Contest) (deck : List (List Bool)) (c d : ℕ) → IsRobust contests deck → Fits (target_count contests) deck → c ≢ d → c < length contests → d < length contests → contest_at contests c ≡ contest_at contests d
-    → 0 < (contest_at contests c).targets → ((i : ℕ) → i < (contest_at contests c).targets → own_total contests deck (first_target contests c + i) ≡ own_total contests deck (first_target contests d + i)) → ⊥
+pub twins_differ : (contests : List Contest) (deck : List (List Bool)) (c d : ℕ)
+    → IsRobust contests deck → Fits (target_count contests) deck → c ≢ d → c < length contests
+    → d < length contests → contest_at contests c ≡ contest_at contests d
+    → 0 < (contest_at contests c).targets
+    → ((i : ℕ) → i < (contest_at contests c).targets
+    → own_total contests deck (first_target contests c + i)
+    ≡ own_total contests deck (first_target contests d + i)) → ⊥
 twins_differ contests deck c d robust fits other c_in d_in shape some equal =
     let a = nth_is_of contests c 0 c_in some in
     let first : first_target contests c + 0 ≡ first_target contests c = omega arith in
@@ -119,7 +139,8 @@ twins_differ contests deck c d robust fits other c_in d_in shape some equal =
     let turned : exchange c d c ≡ d = grind (arith, nat_tests) in
     other (of_one contests c d v at_c (subst (λ (x : ℕ). IsOf contests x v) turned (subst (IsOf contests (exchange c d c)) here g.to)))
   where
-    totals : (e u : ℕ) → IsOf contests e u → (x y : Bool) → (e == c) ≡ x → (e == d) ≡ y → own_total contests deck (moved_by contests c d e u) ≡ own_total contests deck u
+    totals : (e u : ℕ) → IsOf contests e u → (x y : Bool) → (e == c) ≡ x → (e == d) ≡ y
+        → own_total contests deck (moved_by contests c d e u) ≡ own_total contests deck u
     totals e u a true y p q =
         let same : e ≡ c = grind (arith, nat_tests, p) in
         let at = subst (λ (x : ℕ). IsOf contests x u) same a in

@@ -16,7 +16,8 @@ next_is c = omega arith
 
 -- a slice with one more mark
 pub slice_more : (xs : List Bool) (a t : ℕ) → a ≤ t → t < length xs
-    → count_by (λ m. m) (slice_range xs a (t + 1)) ≡ count_by (λ m. m) (slice_range xs a t) + cond (get_or xs t false) 1 0
+    → count_by (λ m. m) (slice_range xs a (t + 1))
+    ≡ count_by (λ m. m) (slice_range xs a t) + cond (get_or xs t false) 1 0
 slice_more xs a t le lt =
     let one : t + 1 - a ≡ (t - a) + 1 = omega arith in
     let back : a + (t - a) ≡ t = omega arith in
@@ -30,8 +31,11 @@ one_of true false n m h = refl
 one_of false true n m h = omega arith
 one_of false false n m h = refl
 
-in_contest : (contests : List Contest) (r : List Bool) (p : ℕ → Bool) (c j : ℕ) → length r ≡ target_count contests → c < length contests → first_target contests c + j ≤ first_target contests (suc c)
-    → count_by (λ u. is_marked r u && p (contest_of contests u)) (range_with_len 0 (first_target contests c + j))
+in_contest : (contests : List Contest) (r : List Bool) (p : ℕ → Bool) (c j : ℕ)
+    → length r ≡ target_count contests → c < length contests
+    → first_target contests c + j ≤ first_target contests (suc c)
+    → count_by (λ u. is_marked r u && p (contest_of contests u))
+    (range_with_len 0 (first_target contests c + j))
     ≡ count_by (λ u. is_marked r u && p (contest_of contests u)) (range_with_len 0 (first_target contests c)) + (if p c then count_by (λ m. m) (slice_range r (first_target contests c) (first_target contests c + j)) else 0)
 in_contest contests r p c zero long lt le =
     let a : ℕ = first_target contests c in
@@ -60,8 +64,11 @@ in_contest contests r p c (suc j) long lt le =
     (omega (arith, more, here, rest, step))
 
 -- marks by contests are marks by targets
-grouped_to : (contests : List Contest) (r : List Bool) (p : ℕ → Bool) (n : ℕ) → length r ≡ target_count contests → n ≤ length contests
-    → sum_by (λ c. if p c then mark_count contests r c else 0) (range_with_len 0 n) ≡ count_by (λ u. is_marked r u && p (contest_of contests u)) (range_with_len 0 (first_target contests n))
+grouped_to : (contests : List Contest) (r : List Bool) (p : ℕ → Bool) (n : ℕ)
+    → length r ≡ target_count contests → n ≤ length contests
+    → sum_by (λ c. if p c then mark_count contests r c else 0) (range_with_len 0 n)
+    ≡ count_by (λ u. is_marked r u && p (contest_of contests u))
+    (range_with_len 0 (first_target contests n))
 grouped_to contests r p zero long le = refl
 grouped_to contests r p (suc n) long le =
     let next : n + 1 ≡ suc n = omega arith in
@@ -76,14 +83,18 @@ grouped_to contests r p (suc n) long le =
     subst (λ (k : ℕ). sum_by (λ c. if p c then mark_count contests r c else 0) (range_with_len 0 k) ≡ count_by (λ u. is_marked r u && p (contest_of contests u)) (range_with_len 0 (first_target contests k))) next
     (omega (arith, more, rest, ends))
 
-pub grouped : (contests : List Contest) (r : List Bool) (p : ℕ → Bool) → length r ≡ target_count contests
-    → sum_by (λ c. if p c then mark_count contests r c else 0) (range_with_len 0 (length contests)) ≡ count_by (λ u. is_marked r u && p (contest_of contests u)) (range_with_len 0 (target_count contests))
+pub grouped : (contests : List Contest) (r : List Bool) (p : ℕ → Bool)
+    → length r ≡ target_count contests
+    → sum_by (λ c. if p c then mark_count contests r c else 0) (range_with_len 0 (length contests))
+    ≡ count_by (λ u. is_marked r u && p (contest_of contests u))
+    (range_with_len 0 (target_count contests))
 grouped contests r p long =
     let whole : first_target contests (length contests) ≡ target_count contests = ap (sum_by (λ (x : Contest). x.targets)) (take_all (length contests) contests (omega arith)) in
     grouped_to contests r p (length contests) long (omega arith) ∙ ap (λ (n : ℕ). count_by (λ u. is_marked r u && p (contest_of contests u)) (range_with_len 0 n)) whole
 
 -- the marks of a ballot at the first n targets
-pub range_marks : (b : List Bool) (n : ℕ) → count_by (λ u. is_marked b u) (range_with_len 0 n) ≡ count_by (λ m. m) (take n b)
+pub range_marks : (b : List Bool) (n : ℕ)
+    → count_by (λ u. is_marked b u) (range_with_len 0 n) ≡ count_by (λ m. m) (take n b)
 range_marks b zero = refl
 range_marks b (suc n) = elim (cases_lt n (length b)) [
   | inl lt ↦

@@ -11,7 +11,8 @@ use Rattle.readings.specs.Structural.{targets_of}
 use Rattle.readings.proofs.Places.{first_next, first_le}
 
 -- a slice as a list made from the numbers of its places
-pub slice_is : (b : List Bool) (a n : ℕ) → a + n ≤ length b → slice_range b a (a + n) ≡ map (λ t. is_marked b t) (range_with_len a n)
+pub slice_is : (b : List Bool) (a n : ℕ) → a + n ≤ length b
+    → slice_range b a (a + n) ≡ map (λ t. is_marked b t) (range_with_len a n)
 slice_is b a n h =
     let width : a + n - a ≡ n = omega arith in
     let long : length (take n (drop a b)) ≡ n = length-take-le n (drop a b) (omega (arith, h, length-drop a b)) in
@@ -23,7 +24,9 @@ slice_is b a n h =
     ∙ sym (get_or-map-range_with_len (λ (t : ℕ). is_marked b t) a n k (a + k) d k_in refl))))
 
 -- the marks of a contest, as a list made from its targets
-pub marks_are : (contests : List Contest) (b : List Bool) (c : ℕ) → c < length contests → length b ≡ target_count contests → marks_in contests b c ≡ map (λ t. is_marked b t) (targets_of contests c)
+pub marks_are : (contests : List Contest) (b : List Bool) (c : ℕ) → c < length contests
+    → length b ≡ target_count contests
+    → marks_in contests b c ≡ map (λ t. is_marked b t) (targets_of contests c)
 marks_are contests b c h long =
     let next = first_next contests c h in
     ap (λ (m : ℕ). slice_range b (first_target contests c) m) next ∙ slice_is b (first_target contests c) (contest_at contests c).targets (omega (arith, next, first_le contests (c + 1), long))

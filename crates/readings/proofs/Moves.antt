@@ -16,8 +16,10 @@ use Rattle.readings.proofs.Readings.{reading_at, reading_long, reading_identity}
 use Rattle.readings.proofs.Marks.{marks_are}
 
 -- a structural misassignment moves the number of marks with the contest
-pub marks_move : (contests : List Contest) (b : List Bool) (f turn : ℕ → ℕ) (c : ℕ) → IsStructural contests f turn → c < length contests → length b ≡ target_count contests
-    → mark_count contests (reading b (made (target_count contests) f)) c ≡ mark_count contests b (turn c)
+pub marks_move : (contests : List Contest) (b : List Bool) (f turn : ℕ → ℕ) (c : ℕ)
+    → IsStructural contests f turn → c < length contests → length b ≡ target_count contests
+    → mark_count contests (reading b (made (target_count contests) f)) c
+    ≡ mark_count contests b (turn c)
 marks_move contests b f turn c is h long =
     let s = made (target_count contests) f in
     let read_long : length (reading b s) ≡ target_count contests = reading_long b s ∙ made_long (target_count contests) f in
@@ -34,7 +36,8 @@ marks_move contests b f turn c is h long =
     left ∙ (step ∙ (moved ∙ (permuted ∙ sym right)))
 
 -- and each vote with its target
-pub votes_move : (contests : List Contest) (b : List Bool) (f turn : ℕ → ℕ) (u : ℕ) → IsStructural contests f turn → u < target_count contests → length b ≡ target_count contests
+pub votes_move : (contests : List Contest) (b : List Bool) (f turn : ℕ → ℕ) (u : ℕ)
+    → IsStructural contests f turn → u < target_count contests → length b ≡ target_count contests
     → votes_for contests (reading b (made (target_count contests) f)) u ≡ votes_for contests b (f u)
 votes_move contests b f turn u is h long =
     let s = made (target_count contests) f in
@@ -46,7 +49,9 @@ votes_move contests b f turn u is h long =
     λ i. mark i && not (nat_lt (limits i) (counts i))
 
 -- a structural misassignment moves each total with its target
-pub totals_move : (contests : List Contest) (deck : List (List Bool)) (f turn : ℕ → ℕ) (u : ℕ) → IsStructural contests f turn → f u < target_count contests → u < target_count contests → Fits (target_count contests) deck
+pub totals_move : (contests : List Contest) (deck : List (List Bool)) (f turn : ℕ → ℕ) (u : ℕ)
+    → IsStructural contests f turn → f u < target_count contests → u < target_count contests
+    → Fits (target_count contests) deck
     → total contests deck (made (target_count contests) f) u ≡ own_total contests deck (f u)
 totals_move contests deck f turn u is k h fits =
     count_alike (λ (b : List Bool). votes_for contests (reading b (made (target_count contests) f)) u) (λ (b : List Bool). votes_for contests (reading b (identity (target_count contests))) (f u)) deck

@@ -29,7 +29,8 @@ cond_sum : (b : Bool) (m n : ℕ) → cond b m 0 + cond b n 0 ≡ cond b (m + n)
 cond_sum true m n = refl
 cond_sum false m n = refl
 
-pub at_all : (g : ℕ → Bool) (n : ℕ) (s : List ℕ) → count_by (λ x. g x && (x == n)) s ≡ cond (g n) (count_by (λ x. x == n) s) 0
+pub at_all : (g : ℕ → Bool) (n : ℕ) (s : List ℕ)
+    → count_by (λ x. g x && (x == n)) s ≡ cond (g n) (count_by (λ x. x == n) s) 0
 at_all g n [] = none (g n)
   where
     none : (b : Bool) → ◌≡◌ {A = ℕ} 0 (cond b 0 0)
@@ -43,7 +44,8 @@ at_all g n (x ∷ s) =
     let whole = ap (λ (m : ℕ). cond (g n) m 0) b in
     omega (arith, a, here, at_all g n s, sum, whole)
 
-part_below : (g : ℕ → Bool) (s : List ℕ) (n : ℕ) → ((t : ℕ) → t < n → count_by (λ x. x == t) s ≡ 1) → count_by (λ x. g x && nat_lt x n) s ≡ count_by g (range_with_len 0 n)
+part_below : (g : ℕ → Bool) (s : List ℕ) (n : ℕ) → ((t : ℕ) → t < n → count_by (λ x. x == t) s ≡ 1)
+    → count_by (λ x. g x && nat_lt x n) s ≡ count_by g (range_with_len 0 n)
 part_below g s zero h = none_below g s
 part_below g s (suc n) h =
     let as_more : n + 1 ≡ suc n = omega arith in
@@ -51,7 +53,8 @@ part_below g s (suc n) h =
     subst (λ (m : ℕ). count_by (λ x. g x && nat_lt x m) s ≡ count_by g (range_with_len 0 m)) as_more
     (omega (arith, one_more g s n, at_all g n s, last, count_more g n, part_below g s n (λ t lt. h t (omega arith))))
 
-all_below : (g : ℕ → Bool) (n : ℕ) (s : List ℕ) → ((i : ℕ) → i < length s → get_or s i 0 < n) → count_by (λ x. g x && nat_lt x n) s ≡ count_by g s
+all_below : (g : ℕ → Bool) (n : ℕ) (s : List ℕ) → ((i : ℕ) → i < length s → get_or s i 0 < n)
+    → count_by (λ x. g x && nat_lt x n) s ≡ count_by g s
 all_below g n [] h = refl
 all_below g n (x ∷ s) h =
     let a = sum_by-cons (λ (y : ℕ). cond (g y && nat_lt y n) 1 0) x s in
@@ -66,5 +69,6 @@ all_below g n (x ∷ s) h =
     both false = refl
 
 -- a misassignment has each target once
-pub count_over : (g : ℕ → Bool) (n : ℕ) (s : List ℕ) → IsMisassignment n s → count_by g s ≡ count_by g (range_with_len 0 n)
+pub count_over : (g : ℕ → Bool) (n : ℕ) (s : List ℕ) → IsMisassignment n s
+    → count_by g s ≡ count_by g (range_with_len 0 n)
 count_over g n s is = sym (all_below g n s (λ i k. within_of n s is i 0 k)) ∙ part_below g s n is.once

@@ -6,7 +6,8 @@ use Rattle.lat_base.specs.declared.contest.Contest.{Contest}
 use Rattle.lat_base.specs.Shape.{target_count, first_target, contest_at, contest_of, no_contest}
 
 -- the next contest begins behind the targets of this one
-pub first_next : (contests : List Contest) (c : ℕ) → c < length contests → first_target contests (c + 1) ≡ first_target contests c + (contest_at contests c).targets
+pub first_next : (contests : List Contest) (c : ℕ) → c < length contests
+    → first_target contests (c + 1) ≡ first_target contests c + (contest_at contests c).targets
 first_next contests c h = sum_by_more (λ (x : Contest). x.targets) contests c no_contest h
 
 -- no contest begins behind the last target
@@ -19,15 +20,19 @@ pub record IsOf (contests : List Contest) (c t : ℕ) : Type 0 where
   pub from : first_target contests c ≤ t
   pub to : t < first_target contests (c + 1)
 
-first_cons : (x : Contest) (contests : List Contest) (c : ℕ) → first_target (x ∷ contests) (suc c) ≡ x.targets + first_target contests c
+first_cons : (x : Contest) (contests : List Contest) (c : ℕ)
+    → first_target (x ∷ contests) (suc c) ≡ x.targets + first_target contests c
 first_cons x contests c = sum_by-cons (λ (y : Contest). y.targets) x (take c contests)
 
 -- each target lies in its contest
-pub is_of : (contests : List Contest) (t : ℕ) → t < target_count contests → IsOf contests (contest_of contests t) t
+pub is_of : (contests : List Contest) (t : ℕ) → t < target_count contests
+    → IsOf contests (contest_of contests t) t
 is_of [] t h = absurd (omega (arith, h))
 is_of (x ∷ contests) t h = by_test (nat_lt t x.targets) refl (λ le. is_of contests (t - x.targets) (omega (arith, le, h, sum_by-cons (λ (y : Contest). y.targets) x contests)))
   where
-    by_test : (b : Bool) → nat_lt t x.targets ≡ b → (x.targets ≤ t → IsOf contests (contest_of contests (t - x.targets)) (t - x.targets)) → IsOf (x ∷ contests) (cond b 0 (suc (contest_of contests (t - x.targets)))) t
+    by_test : (b : Bool) → nat_lt t x.targets ≡ b
+        → (x.targets ≤ t → IsOf contests (contest_of contests (t - x.targets)) (t - x.targets))
+        → IsOf (x ∷ contests) (cond b 0 (suc (contest_of contests (t - x.targets)))) t
     by_test true e more =
         let lt : t < x.targets = grind (arith, nat_tests, e) in
         record { contest = omega arith; from = omega arith; to = omega (arith, lt) }
@@ -41,7 +46,8 @@ is_of (x ∷ contests) t h = by_test (nat_lt t x.targets) refl (λ le. is_of con
           to = omega (arith, le, deeper.to, first_cons x contests (contest_of contests (t - x.targets) + 1), ap (first_target (x ∷ contests)) one);
         }
 
-firsts_rise : (contests : List Contest) (c d : ℕ) → c + d ≤ length contests → first_target contests c ≤ first_target contests (c + d)
+firsts_rise : (contests : List Contest) (c d : ℕ) → c + d ≤ length contests
+    → first_target contests c ≤ first_target contests (c + d)
 firsts_rise contests c zero h = omega (arith, ap (first_target contests) (the_same c))
   where
     the_same : (n : ℕ) → n + 0 ≡ n
@@ -51,7 +57,8 @@ firsts_rise contests c (suc d) h =
     omega (arith, firsts_rise contests c d (omega (arith, h)), first_next contests (c + d) (omega (arith, h)), ap (first_target contests) e)
 
 -- a later contest begins no earlier
-pub first_mono : (contests : List Contest) (c d : ℕ) → c ≤ d → d ≤ length contests → first_target contests c ≤ first_target contests d
+pub first_mono : (contests : List Contest) (c d : ℕ) → c ≤ d → d ≤ length contests
+    → first_target contests c ≤ first_target contests d
 first_mono contests c d h k =
     let e : c + (d - c) ≡ d = omega (arith, h) in
     omega (arith, firsts_rise contests c (d - c) (omega (arith, h, k)), ap (first_target contests) e)
@@ -74,9 +81,11 @@ pub contest_is : (contests : List Contest) (c t : ℕ) → IsOf contests c t →
 contest_is contests c t a = of_one contests (contest_of contests t) c t (is_of contests t (omega (arith, a.to, first_le contests (c + 1)))) a
 
 -- the i-th target of a contest is of it
-pub nth_is_of : (contests : List Contest) (c i : ℕ) → c < length contests → i < (contest_at contests c).targets → IsOf contests c (first_target contests c + i)
+pub nth_is_of : (contests : List Contest) (c i : ℕ) → c < length contests
+    → i < (contest_at contests c).targets → IsOf contests c (first_target contests c + i)
 nth_is_of contests c i h k = record { contest = h; from = omega arith; to = omega (arith, first_next contests c h, k) }
 
 -- a contest's targets are among the style's
-pub nth_within : (contests : List Contest) (c i : ℕ) → c < length contests → i < (contest_at contests c).targets → first_target contests c + i < target_count contests
+pub nth_within : (contests : List Contest) (c i : ℕ) → c < length contests
+    → i < (contest_at contests c).targets → first_target contests c + i < target_count contests
 nth_within contests c i h k = omega (arith, first_next contests c h, first_le contests (c + 1), k)

@@ -8,7 +8,8 @@ use Rattle.readings.specs.Turn.{made}
 use Rattle.readings.proofs.Made.{made_long, made_at}
 
 -- the mark of u is that of its source
-pub reading_at : (b : List Bool) (s : List ℕ) (u : ℕ) → u < length s → is_marked (reading b s) u ≡ is_marked b (get_or s u 0)
+pub reading_at : (b : List Bool) (s : List ℕ) (u : ℕ) → u < length s
+    → is_marked (reading b s) u ≡ is_marked b (get_or s u 0)
 reading_at b s u h = get_or-map (λ (t : ℕ). is_marked b t) s u 0 false h
 
 -- a ballot as read has a mark for each source
@@ -16,7 +17,8 @@ pub reading_long : (b : List Bool) (s : List ℕ) → length (reading b s) ≡ l
 reading_long b s = length-map s (λ (t : ℕ). is_marked b t)
 
 -- read so that each target has a mark that it had anyway, a ballot is as it was
-pub reading_kept : (b : List Bool) (n : ℕ) (s : List ℕ) → length b ≡ n → length s ≡ n → ((u : ℕ) → u < n → is_marked b (get_or s u 0) ≡ is_marked b u) → reading b s ≡ b
+pub reading_kept : (b : List Bool) (n : ℕ) (s : List ℕ) → length b ≡ n → length s ≡ n
+    → ((u : ℕ) → u < n → is_marked b (get_or s u 0) ≡ is_marked b u) → reading b s ≡ b
 reading_kept b n s long s_long h = same_lists (reading b s) b (reading_long b s ∙ (s_long ∙ sym long))
     (λ k d lt.
     let inside : k < length s = omega (arith, lt, reading_long b s) in
@@ -28,7 +30,8 @@ reading_identity b n long = reading_kept b n (identity n) long (length-range_wit
     (λ u h. ap (is_marked b) (get_or-range_with_len 0 n u 0 h ∙ omega arith))
 
 -- a reading of a reading
-pub reading_reading : (b : List Bool) (s t : List ℕ) → All (λ u. u < length s) t → reading (reading b s) t ≡ reading b (map (λ u. get_or s u 0) t)
+pub reading_reading : (b : List Bool) (s t : List ℕ) → All (λ u. u < length s) t
+    → reading (reading b s) t ≡ reading b (map (λ u. get_or s u 0) t)
 reading_reading b s t inside = same_lists (reading (reading b s) t) (reading b (map (λ u. get_or s u 0) t)) (reading_long (reading b s) t ∙ sym (reading_long b (map (λ u. get_or s u 0) t) ∙ length-map t (λ (u : ℕ). get_or s u 0)))
     (λ k d lt.
     let k_in : k < length t = omega (arith, lt, reading_long (reading b s) t) in
@@ -39,7 +42,9 @@ reading_reading b s t inside = same_lists (reading (reading b s) t) (reading b (
     left ∙ sym right)
 
 -- a reading of a reading, both made by functions
-pub reading_made : (b : List Bool) (n : ℕ) (f h k : ℕ → ℕ) → ((u : ℕ) → u < n → h u < n) → ((u : ℕ) → u < n → f (h u) ≡ k u) → reading (reading b (made n f)) (made n h) ≡ reading b (made n k)
+pub reading_made : (b : List Bool) (n : ℕ) (f h k : ℕ → ℕ) → ((u : ℕ) → u < n → h u < n)
+    → ((u : ℕ) → u < n → f (h u) ≡ k u)
+    → reading (reading b (made n f)) (made n h) ≡ reading b (made n k)
 reading_made b n f h k within same =
     same_lists (reading (reading b (made n f)) (made n h)) (reading b (made n k)) (left_long ∙ sym right_long)
     (λ u d lt.

@@ -20,11 +20,15 @@ use Rattle.readings.proofs.Within.{source_within}
 use Rattle.readings.proofs.Turned.{place, turn_of, made_of, turned_turn}
 
 -- the totals of a deck whose ballots are changed
-pub total_map : (contests : List Contest) (deck : List (List Bool)) (f : List Bool → List Bool) (s : List ℕ) (u : ℕ) → total contests (map f deck) s u ≡ count_by (λ b. votes_for contests (reading (f b) s) u) deck
+pub total_map : (contests : List Contest) (deck : List (List Bool)) (f : List Bool → List Bool)
+    (s : List ℕ) (u : ℕ) → total contests (map f deck) s u
+    ≡ count_by (λ b. votes_for contests (reading (f b) s) u) deck
 total_map contests deck f s u = count_map f (λ (b : List Bool). votes_for contests (reading b s) u) deck
 
 -- a robust deck stays robust where its targets are relabelled so that contests stay together
-pub relabelled_robust : (contests : List Contest) (deck : List (List Bool)) (f g turn : ℕ → ℕ) → Fits (target_count contests) deck → IsTurn (target_count contests) f g → IsStructural contests f turn
+pub relabelled_robust : (contests : List Contest) (deck : List (List Bool)) (f g turn : ℕ → ℕ)
+    → Fits (target_count contests) deck → IsTurn (target_count contests) f g
+    → IsStructural contests f turn
     → IsRobust contests deck → IsRobust contests (relabelled (target_count contests) f deck)
 relabelled_robust contests deck f g turn fits is structural robust s s_is same =
     let n = target_count contests in

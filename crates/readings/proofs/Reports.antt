@@ -7,19 +7,25 @@ use Rattle.lat_base.specs.Shape.{target_count}
 use Rattle.lat_base.specs.Tally.{total, report}
 
 -- lists made by functions that agree on the numbers of a range
-pub alike : (f g : ℕ → ℕ) (a n : ℕ) → ((u : ℕ) → a ≤ u → u < a + n → f u ≡ g u) → map f (range_with_len a n) ≡ map g (range_with_len a n)
+pub alike : (f g : ℕ → ℕ) (a n : ℕ) → ((u : ℕ) → a ≤ u → u < a + n → f u ≡ g u)
+    → map f (range_with_len a n) ≡ map g (range_with_len a n)
 alike f g a zero h = refl
 alike f g a (suc n) h = λ i. h a (omega arith) (omega arith) i ∷ alike f g (a + 1) n (λ u low high. h u (omega arith) (omega arith)) i
 
 -- equal totals make equal reports
-pub same_report : (contests : List Contest) (deck : List (List Bool)) (s o : List ℕ) → ((u : ℕ) → u < target_count contests → total contests deck s u ≡ total contests deck o u) → report contests deck s ≡ report contests deck o
+pub same_report : (contests : List Contest) (deck : List (List Bool)) (s o : List ℕ)
+    → ((u : ℕ) → u < target_count contests → total contests deck s u ≡ total contests deck o u)
+    → report contests deck s ≡ report contests deck o
 same_report contests deck s o h = alike (total contests deck s) (total contests deck o) 0 (target_count contests) (λ u low high. h u (omega (arith, high)))
 
 -- equal reports have equal totals
-pub report_same : (contests : List Contest) (deck : List (List Bool)) (s o : List ℕ) (u : ℕ) → u < target_count contests → report contests deck s ≡ report contests deck o → total contests deck s u ≡ total contests deck o u
+pub report_same : (contests : List Contest) (deck : List (List Bool)) (s o : List ℕ) (u : ℕ)
+    → u < target_count contests → report contests deck s ≡ report contests deck o
+    → total contests deck s u ≡ total contests deck o u
 report_same contests deck s o u h same = sym (get_or-map-range_with_len (total contests deck s) 0 (target_count contests) u u 0 h (omega arith))
     ∙ (ap (λ (r : List ℕ). get_or r u 0) same ∙ get_or-map-range_with_len (total contests deck o) 0 (target_count contests) u u 0 h (omega arith))
 
 -- a report has a total for each target
-pub report_long : (contests : List Contest) (deck : List (List Bool)) (s : List ℕ) → length (report contests deck s) ≡ target_count contests
+pub report_long : (contests : List Contest) (deck : List (List Bool)) (s : List ℕ)
+    → length (report contests deck s) ≡ target_count contests
 report_long contests deck s = length-map-range_with_len (total contests deck s) 0 (target_count contests)

@@ -19,7 +19,8 @@ use Rattle.readings.proofs.Made.{exchange_turn}
 use Rattle.readings.proofs.RobustDecks.{structural_stays}
 
 -- a function that moves a range along
-pub range_moved : (f : ℕ → ℕ) (a b n : ℕ) → ((i : ℕ) → i < n → f (a + i) ≡ b + i) → map f (range_with_len a n) ≡ range_with_len b n
+pub range_moved : (f : ℕ → ℕ) (a b n : ℕ) → ((i : ℕ) → i < n → f (a + i) ≡ b + i)
+    → map f (range_with_len a n) ≡ range_with_len b n
 range_moved f a b n h = same_lists (map f (range_with_len a n)) (range_with_len b n) (length-map-range_with_len f a n ∙ sym (length-range_with_len b n))
     (λ k d lt.
     let k_in : k < n = omega (arith, lt, length-map-range_with_len f a n) in
@@ -30,7 +31,8 @@ pub same_permutation : (xs ys : List ℕ) → ys ≡ xs → IsPermutation xs ys
 same_permutation xs ys e = subst (λ (zs : List ℕ). IsPermutation xs zs) (sym e) (IsPermutation-refl xs)
 
 -- a range in which two places were exchanged
-exchanged_range : (a n i j : ℕ) → i < n → j < n → i ≢ j → IsPermutation (range_with_len a n) (map (exchange (a + i) (a + j)) (range_with_len a n))
+exchanged_range : (a n i j : ℕ) → i < n → j < n → i ≢ j
+    → IsPermutation (range_with_len a n) (map (exchange (a + i) (a + j)) (range_with_len a n))
 exchanged_range a n i j h k other =
     let xs = range_with_len a n in
     let long : length xs ≡ n = length-range_with_len a n in
@@ -48,8 +50,11 @@ exchanged_range a n i j h k other =
     ∙ by_place xs one p d (p == i) (p == j) refl refl p_in long one_long at_i at_j (get_or-range_with_len a n p d p_in)) in
     IsPermutation-swap xs (map (exchange (a + i) (a + j)) xs) i j (omega (arith, h, long)) (omega (arith, k, long)) (is ∙ swap_is xs i j 0 (omega (arith, h, long)) (omega (arith, k, long)))
   where
-    by_place : (xs one : List ℕ) (p d : ℕ) (x y : Bool) → (p == i) ≡ x → (p == j) ≡ y → p < n → length xs ≡ n → length (set xs i (get_or xs j 0)) ≡ n → get_or xs i 0 ≡ a + i → get_or xs j 0 ≡ a + j → get_or xs p d ≡ a + p
-        → exchange (a + i) (a + j) (a + p) ≡ get_or (set (set xs i (get_or xs j 0)) j (get_or xs i 0)) p d
+    by_place : (xs one : List ℕ) (p d : ℕ) (x y : Bool) → (p == i) ≡ x → (p == j) ≡ y → p < n
+        → length xs ≡ n → length (set xs i (get_or xs j 0)) ≡ n → get_or xs i 0 ≡ a + i
+        → get_or xs j 0 ≡ a + j → get_or xs p d ≡ a + p
+        → exchange (a + i) (a + j) (a + p)
+        ≡ get_or (set (set xs i (get_or xs j 0)) j (get_or xs i 0)) p d
     by_place xs one p d x true e f p_in long one_long at_i at_j at_p =
         let same : p ≡ j = grind (arith, nat_tests, f) in
         let left : exchange (a + i) (a + j) (a + p) ≡ a + i = grind (arith, nat_tests, same, other) in
@@ -66,7 +71,8 @@ exchanged_range a n i j h k other =
         left ∙ sym (get_or-set_other (set xs i (get_or xs j 0)) j p (get_or xs i 0) d not_j ∙ (get_or-set_other xs i p (get_or xs j 0) d not_i ∙ at_p))
 
 -- t and u of one contest exchanged
-pub exchange_structural : (contests : List Contest) (c t u : ℕ) → IsOf contests c t → IsOf contests c u → t ≢ u → IsStructural contests (exchange t u) (λ e. e)
+pub exchange_structural : (contests : List Contest) (c t u : ℕ) → IsOf contests c t
+    → IsOf contests c u → t ≢ u → IsStructural contests (exchange t u) (λ e. e)
 exchange_structural contests c t u a b other = record {
   within = λ e h. h;
   shape = λ e h. refl;
@@ -74,7 +80,8 @@ exchange_structural contests c t u a b other = record {
   contest = λ v h. by_target v (v == t) (v == u) refl refl;
 }
   where
-    by_contest : (e : ℕ) (x : Bool) → (e == c) ≡ x → e < length contests → IsPermutation (targets_of contests e) (map (exchange t u) (targets_of contests e))
+    by_contest : (e : ℕ) (x : Bool) → (e == c) ≡ x → e < length contests
+        → IsPermutation (targets_of contests e) (map (exchange t u) (targets_of contests e))
     by_contest e true is h =
         let same : e ≡ c = grind (arith, nat_tests, is) in
         let next = first_next contests c a.contest in
@@ -94,7 +101,8 @@ exchange_structural contests c t u a b other = record {
         let not_u : first_target contests e + i ≡ u → ⊥ = λ q. differs (of_one contests e c u (subst (IsOf contests e) q here) b) in
         grind (arith, nat_tests, not_t, not_u)))
 
-    by_target : (v : ℕ) (x y : Bool) → (v == t) ≡ x → (v == u) ≡ y → contest_of contests (cond (v == t) u (cond (v == u) t v)) ≡ contest_of contests v
+    by_target : (v : ℕ) (x y : Bool) → (v == t) ≡ x → (v == u) ≡ y
+        → contest_of contests (cond (v == t) u (cond (v == u) t v)) ≡ contest_of contests v
     by_target v true y e f =
         let same : v ≡ t = grind (arith, nat_tests, e) in
         ap (λ (x : Bool). contest_of contests (cond x u (cond (v == u) t v))) e ∙ (contest_is contests c u b ∙ (sym (contest_is contests c t a) ∙ ap (contest_of contests) (sym same)))
@@ -104,7 +112,9 @@ exchange_structural contests c t u a b other = record {
     by_target v false false e f = λ i. contest_of contests (cond (e i) u (cond (f i) t v))
 
 -- in a robust deck the totals of one contest differ
-pub totals_differ : (contests : List Contest) (deck : List (List Bool)) (c t u : ℕ) → IsRobust contests deck → Fits (target_count contests) deck → IsOf contests c t → IsOf contests c u → t ≢ u → own_total contests deck t ≡ own_total contests deck u → ⊥
+pub totals_differ : (contests : List Contest) (deck : List (List Bool)) (c t u : ℕ)
+    → IsRobust contests deck → Fits (target_count contests) deck → IsOf contests c t
+    → IsOf contests c u → t ≢ u → own_total contests deck t ≡ own_total contests deck u → ⊥
 totals_differ contests deck c t u robust fits a b other equal =
     let t_in : t < target_count contests = omega (arith, a.to, first_le contests (c + 1)) in
     let u_in : u < target_count contests = omega (arith, b.to, first_le contests (c + 1)) in
@@ -112,7 +122,8 @@ totals_differ contests deck c t u robust fits a b other equal =
     other (sym (structural_stays contests deck (exchange t u) (exchange t u) (λ e. e) robust fits (exchange_turn (target_count contests) t u t_in u_in) (exchange_structural contests c t u a b other)
     (λ v h. by_test v (v == t) (v == u) refl refl) t t_in) ∙ moved)
   where
-    by_test : (v : ℕ) (x y : Bool) → (v == t) ≡ x → (v == u) ≡ y → own_total contests deck (cond (v == t) u (cond (v == u) t v)) ≡ own_total contests deck v
+    by_test : (v : ℕ) (x y : Bool) → (v == t) ≡ x → (v == u) ≡ y
+        → own_total contests deck (cond (v == t) u (cond (v == u) t v)) ≡ own_total contests deck v
     by_test v true y e f =
         let same : v ≡ t = grind (arith, nat_tests, e) in
         ap (λ (x : Bool). own_total contests deck (cond x u (cond (v == u) t v))) e ∙ (sym equal ∙ ap (own_total contests deck) (sym same))

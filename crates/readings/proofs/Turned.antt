@@ -19,7 +19,8 @@ pub record At (s : List ℕ) (t : ℕ) : Type 0 where
   pub there : get_or s (place s t) 0 ≡ t
   pub alone : (u : ℕ) → u < length s → get_or s u 0 ≡ t → u ≡ place s t
 
-none_left : (s : List ℕ) (t u : ℕ) → count_by (λ x. x == t) s ≡ 0 → u < length s → get_or s u 0 ≡ t → ⊥
+none_left : (s : List ℕ) (t u : ℕ) → count_by (λ x. x == t) s ≡ 0 → u < length s → get_or s u 0 ≡ t
+    → ⊥
 none_left [] t u h lt e = omega (arith, lt)
 none_left (x ∷ s) t zero h lt e =
     let one : ◌≡◌ {A = ℕ} (cond (x == t) 1 0) 1 = grind (arith, nat_tests, e) in
@@ -30,11 +31,13 @@ pub once_at : (s : List ℕ) (t : ℕ) → count_by (λ x. x == t) s ≡ 1 → A
 once_at [] t h = absurd (omega (arith, h))
 once_at (x ∷ s) t h = by_test (x == t) refl (once_at s t)
   where
-    first : (u : ℕ) → u < length (x ∷ s) → get_or (x ∷ s) u 0 ≡ t → count_by (λ y. y == t) s ≡ 0 → u ≡ 0
+    first : (u : ℕ) → u < length (x ∷ s) → get_or (x ∷ s) u 0 ≡ t → count_by (λ y. y == t) s ≡ 0
+        → u ≡ 0
     first zero lt same rest = refl
     first (suc u) lt same rest = absurd (none_left s t u rest (omega (arith, lt)) same)
 
-    later : (u : ℕ) → u < length (x ∷ s) → get_or (x ∷ s) u 0 ≡ t → (x ≡ t → ⊥) → At s t → u ≡ suc (place s t)
+    later : (u : ℕ) → u < length (x ∷ s) → get_or (x ∷ s) u 0 ≡ t → (x ≡ t → ⊥) → At s t
+        → u ≡ suc (place s t)
     later zero lt same not_t deeper = absurd (not_t same)
     later (suc u) lt same not_t deeper = ap suc (deeper.alone u (omega (arith, lt)) same)
 
@@ -61,7 +64,8 @@ once_at (x ∷ s) t h = by_test (x == t) refl (once_at s t)
         }
 
 -- a misassignment goes through the targets, and its places go back
-pub turn_of : (n : ℕ) (s : List ℕ) → IsMisassignment n s → ((u : ℕ) → u < n → source s u < n) → IsTurn n (source s) (place s)
+pub turn_of : (n : ℕ) (s : List ℕ) → IsMisassignment n s → ((u : ℕ) → u < n → source s u < n)
+    → IsTurn n (source s) (place s)
 turn_of n s is within = record {
   within = within;
   back_within = λ t lt. omega (arith, (once_at s t (is.once t lt)).inside, is.long);
@@ -74,7 +78,8 @@ pub made_of : (n : ℕ) (s : List ℕ) → length s ≡ n → s ≡ made n (sour
 made_of n s long = fill_by_all (source s) s n 0 long (λ k lt. refl)
 
 -- turn f, then take back by g, what h does in between
-pub turned_turn : (n : ℕ) (f g h i : ℕ → ℕ) → IsTurn n f g → IsTurn n h i → IsTurn n (λ u. f (h (g u))) (λ u. f (i (g u)))
+pub turned_turn : (n : ℕ) (f g h i : ℕ → ℕ) → IsTurn n f g → IsTurn n h i
+    → IsTurn n (λ u. f (h (g u))) (λ u. f (i (g u)))
 turned_turn n f g h i a b = record {
   within = λ u lt. a.within (h (g u)) (b.within (g u) (a.back_within u lt));
   back_within = λ u lt. a.within (i (g u)) (b.back_within (g u) (a.back_within u lt));
@@ -83,7 +88,8 @@ turned_turn n f g h i a b = record {
 }
 
 -- different targets have different sources
-pub apart_of : (n : ℕ) (s : List ℕ) (u w : ℕ) → IsMisassignment n s → u < n → w < n → source s u ≡ source s w → u ≡ w
+pub apart_of : (n : ℕ) (s : List ℕ) (u w : ℕ) → IsMisassignment n s → u < n → w < n
+    → source s u ≡ source s w → u ≡ w
 apart_of n s u w is lu lw e =
     let turn = turn_of n s is (source_within n s is) in
     sym (turn.back u lu) ∙ (ap (place s) e ∙ turn.back w lw)

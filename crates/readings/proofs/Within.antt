@@ -8,7 +8,8 @@ use Rattle.lat_base.specs.Misassignment.{IsMisassignment, source}
 use Rattle.lemmas.proofs.Below.{below_count}
 
 -- where as many pass as there are, the first passes, and as many of the others
-first_passes : (p : ℕ → Bool) (x : ℕ) (s : List ℕ) (b : Bool) → p x ≡ b → count_by p (x ∷ s) ≡ suc (length s) → (p x ≡ true) × (count_by p s ≡ length s)
+first_passes : (p : ℕ → Bool) (x : ℕ) (s : List ℕ) (b : Bool) → p x ≡ b
+    → count_by p (x ∷ s) ≡ suc (length s) → (p x ≡ true) × (count_by p s ≡ length s)
 first_passes p x s true e h =
     let one : ◌≡◌ {A = ℕ} (cond (p x) 1 0) 1 = ap (λ (b : Bool). cond b 1 0) e in
     (e, omega (arith, h, sum_by-cons (λ (y : ℕ). cond (p y) 1 0) x s, one))
@@ -16,7 +17,8 @@ first_passes p x s false e h =
     let none : ◌≡◌ {A = ℕ} (cond (p x) 1 0) 0 = ap (λ (b : Bool). cond b 1 0) e in
     absurd (omega (arith, h, sum_by-cons (λ (y : ℕ). cond (p y) 1 0) x s, none, count_by-le-length p s))
 
-all_pass : (p : ℕ → Bool) (s : List ℕ) → count_by p s ≡ length s → AllByRecursion (λ x. p x ≡ true) s
+all_pass : (p : ℕ → Bool) (s : List ℕ) → count_by p s ≡ length s
+    → AllByRecursion (λ x. p x ≡ true) s
 all_pass p [] h = tt
 all_pass p (x ∷ s) h = let parts = first_passes p x s (p x) refl h in (parts.0, all_pass p s parts.1)
 

@@ -15,8 +15,8 @@ pub fn columns_differ()
         All (λ ballot. is_marked ballot t ≡ is_marked ballot u) deck → ⊥ }
 {}
 
-/// A law: a misassignment that keeps contests together and takes each target of a robust deck to one
-/// of equal total moves none. The call does nothing.
+/// A law: a misassignment that keeps contests together and takes each target of a robust deck to
+/// one of equal total moves none. The call does nothing.
 pub fn structural_stays()
     ensures { (contests : List Contest) (deck : List (List Bool)) (f g turn : ℕ → ℕ) →
         IsRobust contests deck → Fits (target_count contests) deck →
@@ -26,8 +26,8 @@ pub fn structural_stays()
         (u : ℕ) → u < target_count contests → f u ≡ u }
 {}
 
-/// A law: in a robust deck the totals of one contest differ, also where no rule asks for it. The call
-/// does nothing.
+/// A law: in a robust deck the totals of one contest differ, also where no rule asks for it. The
+/// call does nothing.
 pub fn totals_differ()
     ensures { (contests : List Contest) (deck : List (List Bool)) (t u : ℕ) →
         IsRobust contests deck → Fits (target_count contests) deck →
@@ -36,8 +36,8 @@ pub fn totals_differ()
         own_total contests deck t ≡ own_total contests deck u → ⊥ }
 {}
 
-/// A law: in a robust deck two contests of equal limit and number of targets have different lists of
-/// totals. The call does nothing.
+/// A law: in a robust deck two contests of equal limit and number of targets have different lists
+/// of totals. The call does nothing.
 pub fn twins_differ()
     ensures { (contests : List Contest) (deck : List (List Bool)) (c d : ℕ) →
         IsRobust contests deck → Fits (target_count contests) deck → c ≢ d →

@@ -1,7 +1,7 @@
-//! Plans a small style for each line of standard input twice, by the planner and by trying every deck
-//! and every misassignment, and prints what both say. A line has the rules distinct, least, blank and
-//! over, the greatest number of ballots, and the style's contests, each as its limit and its number of
-//! targets.
+//! Plans a small style for each line of standard input twice, by the planner and by trying every
+//! deck and every misassignment, and prints what both say. A line has the rules distinct, least,
+//! blank and over, the greatest number of ballots, and the style's contests, each as its limit and
+//! its number of targets.
 #![tactic(auto)]
 
 use anyhow::{Result, ensure};

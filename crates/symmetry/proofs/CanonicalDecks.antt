@@ -18,7 +18,8 @@ use Rattle.symmetry.specs.Order.{RiseWithin, totals_of, AreEarlier}
 use Rattle.lemmas.proofs.Ranges.{ranges_alike}
 
 -- a slice of a list that a function makes
-made_slice : (f : ℕ → ℕ) (n a m : ℕ) → a + m ≤ n → slice_range (map f (range_with_len 0 n)) a (a + m) ≡ map f (range_with_len a m)
+made_slice : (f : ℕ → ℕ) (n a m : ℕ) → a + m ≤ n
+    → slice_range (map f (range_with_len 0 n)) a (a + m) ≡ map f (range_with_len a m)
 made_slice f n a m h =
     let xs = map f (range_with_len 0 n) in
     let width : a + m - a ≡ m = omega arith in
@@ -32,42 +33,60 @@ made_slice f n a m h =
     ∙ sym (get_or-map-range_with_len f a m k (a + k) d k_in refl))))
 
 -- the totals of a contest in the report are those of its targets
-pub totals_in_are : (contests : List Contest) (deck : List (List Bool)) (c : ℕ) → c < length contests → totals_in contests deck c ≡ totals_of contests (own_total contests deck) c
+pub totals_in_are : (contests : List Contest) (deck : List (List Bool)) (c : ℕ)
+    → c < length contests → totals_in contests deck c
+    ≡ totals_of contests (own_total contests deck) c
 totals_in_are contests deck c lt =
     let next = first_next contests c lt in
     ap (slice_range (report contests deck (identity (target_count contests))) (first_target contests c)) next
     ∙ made_slice (own_total contests deck) (target_count contests) (first_target contests c) (contest_at contests c).targets (omega (arith, next, first_le contests (c + 1)))
 
-compared : (contests : List Contest) (deck : List (List Bool)) (c d : ℕ) → c < length contests → d < length contests
-    → slice_cmp nat_cmp (totals_in contests deck c) (totals_in contests deck d) ≡ slice_cmp nat_cmp (totals_of contests (own_total contests deck) c) (totals_of contests (own_total contests deck) d)
+compared : (contests : List Contest) (deck : List (List Bool)) (c d : ℕ) → c < length contests
+    → d < length contests
+    → slice_cmp nat_cmp (totals_in contests deck c) (totals_in contests deck d)
+    ≡ slice_cmp nat_cmp (totals_of contests (own_total contests deck) c)
+    (totals_of contests (own_total contests deck) d)
 compared contests deck c d c_in d_in = λ i. slice_cmp nat_cmp (totals_in_are contests deck c c_in i) (totals_in_are contests deck d d_in i)
 
-pub canonical_of : (contests : List Contest) (deck : List (List Bool)) → AreFalling deck → RiseWithin contests (own_total contests deck) → AreEarlier contests (own_total contests deck) → IsCanonical contests deck
+pub canonical_of : (contests : List Contest) (deck : List (List Bool)) → AreFalling deck
+    → RiseWithin contests (own_total contests deck) → AreEarlier contests (own_total contests deck)
+    → IsCanonical contests deck
 canonical_of contests deck falling rise earlier = record {
   ballots = falling;
   totals = rise;
   earlier = λ c d lt d_in shape greater. earlier c d (omega (arith, lt, d_in)) lt d_in shape (sym (compared contests deck c d (omega (arith, lt, d_in)) d_in) ∙ greater);
 }
 
-pub earlier_of : (contests : List Contest) (deck : List (List Bool)) → IsCanonical contests deck → AreEarlier contests (own_total contests deck)
+pub earlier_of : (contests : List Contest) (deck : List (List Bool)) → IsCanonical contests deck
+    → AreEarlier contests (own_total contests deck)
 earlier_of contests deck is c d c_in lt d_in shape greater = is.earlier c d lt d_in shape (compared contests deck c d c_in d_in ∙ greater)
 
 -- totals that agree are in the same order
-pub rise_alike : (contests : List Contest) (total other : ℕ → ℕ) → ((u : ℕ) → u < target_count contests → total u ≡ other u) → RiseWithin contests total → RiseWithin contests other
+pub rise_alike : (contests : List Contest) (total other : ℕ → ℕ)
+    → ((u : ℕ) → u < target_count contests → total u ≡ other u) → RiseWithin contests total
+    → RiseWithin contests other
 rise_alike contests total other same rise t lt together = omega (arith, rise t lt together, same t (omega (arith, lt)), same (t + 1) lt)
 
 -- and make the same lists
-pub totals_alike : (contests : List Contest) (total other : ℕ → ℕ) (c : ℕ) → ((u : ℕ) → u < target_count contests → total u ≡ other u) → c < length contests → totals_of contests total c ≡ totals_of contests other c
+pub totals_alike : (contests : List Contest) (total other : ℕ → ℕ) (c : ℕ)
+    → ((u : ℕ) → u < target_count contests → total u ≡ other u) → c < length contests
+    → totals_of contests total c ≡ totals_of contests other c
 totals_alike contests total other c same lt =
     ranges_alike total other (first_target contests c) (first_target contests c) (contest_at contests c).targets (λ i inside. same (first_target contests c + i) (omega (arith, inside, first_next contests c lt, first_le contests (c + 1))))
 
-pub earlier_alike : (contests : List Contest) (total other : ℕ → ℕ) → ((u : ℕ) → u < target_count contests → total u ≡ other u) → AreEarlier contests total → AreEarlier contests other
+pub earlier_alike : (contests : List Contest) (total other : ℕ → ℕ)
+    → ((u : ℕ) → u < target_count contests → total u ≡ other u) → AreEarlier contests total
+    → AreEarlier contests other
 earlier_alike contests total other same earlier c d c_in lt d_in shape greater =
     earlier c d c_in lt d_in shape ((λ i. slice_cmp nat_cmp (totals_alike contests total other c same c_in i) (totals_alike contests total other d same d_in i)) ∙ greater)
 
 -- where totals don't fall at one more target, they don't up to there
-pub rise_more : (contests : List Contest) (total : ℕ → ℕ) (t : ℕ) → ((k : ℕ) → k < t → contest_of contests k ≡ contest_of contests (k + 1) → total k ≤ total (k + 1))
-    → ¬ ((contest_of contests t ≡ contest_of contests (t + 1)) × (total (t + 1) < total t)) → (k : ℕ) → k < t + 1 → contest_of contests k ≡ contest_of contests (k + 1) → total k ≤ total (k + 1)
+pub rise_more : (contests : List Contest) (total : ℕ → ℕ) (t : ℕ)
+    → ((k : ℕ) → k < t → contest_of contests k ≡ contest_of contests (k + 1)
+    → total k ≤ total (k + 1))
+    → ¬ ((contest_of contests t ≡ contest_of contests (t + 1)) × (total (t + 1) < total t))
+    → (k : ℕ) → k < t + 1 → contest_of contests k ≡ contest_of contests (k + 1)
+    → total k ≤ total (k + 1)
 rise_more contests total t so_far here k lt same = elim (cases_eq k t) [
   | inl is ↦ elim (cases_lt (total (k + 1)) (total k)) [
     | inl less ↦ absurd (here (subst (λ (x : ℕ). (contest_of contests x ≡ contest_of contests (x + 1)) × (total (x + 1) < total x)) is (same, less)))

@@ -23,13 +23,16 @@ abbrev pub unmarked : List Contest → List Bool
 unmarked contests = replicate (target_count contests) false
 
 -- copies of a ballot that passes a test or not
-pub copies_that : (f : List Bool → Bool) (n : ℕ) (b : List Bool) (t : Bool) → f b ≡ t → count_by f (replicate n b) ≡ n * cond t 1 0
+pub copies_that : (f : List Bool → Bool) (n : ℕ) (b : List Bool) (t : Bool) → f b ≡ t
+    → count_by f (replicate n b) ≡ n * cond t 1 0
 copies_that f n b t e = sum_by-replicate (λ (x : List Bool). cond (f x) 1 0) n b ∙ ap (λ (x : Bool). n * cond x 1 0) e
 
-pub all_copies : (f : List Bool → Bool) (n : ℕ) (b : List Bool) → f b ≡ true → count_by f (replicate n b) ≡ n
+pub all_copies : (f : List Bool → Bool) (n : ℕ) (b : List Bool) → f b ≡ true
+    → count_by f (replicate n b) ≡ n
 all_copies f n b e = omega (arith, copies_that f n b true e)
 
-pub no_copies : (f : List Bool → Bool) (n : ℕ) (b : List Bool) → f b ≡ false → count_by f (replicate n b) ≡ 0
+pub no_copies : (f : List Bool → Bool) (n : ℕ) (b : List Bool) → f b ≡ false
+    → count_by f (replicate n b) ≡ 0
 no_copies f n b e = omega (arith, copies_that f n b false e)
 
 -- a ballot that is marked everywhere overvotes each contest that can be
@@ -37,7 +40,8 @@ all_true : (ns : List ℕ) → count_by (λ n. true) ns ≡ length ns
 all_true [] = refl
 all_true (n ∷ ns) = omega (arith, sum_by-cons (λ (m : ℕ). cond true 1 0) n ns, all_true ns)
 
-pub full_marks : (contests : List Contest) (c : ℕ) → c < length contests → mark_count contests (full contests) c ≡ (contest_at contests c).targets
+pub full_marks : (contests : List Contest) (c : ℕ) → c < length contests
+    → mark_count contests (full contests) c ≡ (contest_at contests c).targets
 full_marks contests c h =
     let n = (contest_at contests c).targets in
     let first = first_target contests c in
@@ -49,11 +53,14 @@ full_marks contests c h =
     ap (is_marked (full contests)) (get_or-range_with_len first n i d i_in) ∙ get_or-replicate (target_count contests) (first + i) true false (nth_within contests c i h i_in))
     ∙ (all_true (targets_of contests c) ∙ length-range_with_len first n)))
 
-pub full_overvoted : (contests : List Contest) (c : ℕ) → c < length contests → CanOvervote (contest_at contests c) → is_overvoted contests (full contests) c ≡ true
+pub full_overvoted : (contests : List Contest) (c : ℕ) → c < length contests
+    → CanOvervote (contest_at contests c) → is_overvoted contests (full contests) c ≡ true
 full_overvoted contests c h can = lt-ltb (contest_at contests c).limit (mark_count contests (full contests) c) (omega (arith, can, full_marks contests c h))
 
 -- it votes for all targets of a contest or for none
-pub full_votes : (contests : List Contest) (t : ℕ) → t < target_count contests → votes_for contests (full contests) t ≡ not (is_overvoted contests (full contests) (contest_of contests t))
+pub full_votes : (contests : List Contest) (t : ℕ) → t < target_count contests
+    → votes_for contests (full contests) t
+    ≡ not (is_overvoted contests (full contests) (contest_of contests t))
 full_votes contests t h =
     let marked : is_marked (full contests) t ≡ true = get_or-replicate (target_count contests) t true false h in
     λ k. marked k && not (is_overvoted contests (full contests) (contest_of contests t))
@@ -62,7 +69,8 @@ full_votes contests t h =
 pub unmarked_blank : (contests : List Contest) → is_blank (unmarked contests) ≡ true
 unmarked_blank contests = list_all-from_AllPass not (unmarked contests) (All-replicate (λ (m : Bool). not m ≡ true) (target_count contests) false refl)
 
-pub unmarked_votes : (contests : List Contest) (t : ℕ) → t < target_count contests → votes_for contests (unmarked contests) t ≡ false
+pub unmarked_votes : (contests : List Contest) (t : ℕ) → t < target_count contests
+    → votes_for contests (unmarked contests) t ≡ false
 unmarked_votes contests t h =
     let blank : is_marked (unmarked contests) t ≡ false = get_or-replicate (target_count contests) t false false h in
     λ k. blank k && not (is_overvoted contests (unmarked contests) (contest_of contests t))

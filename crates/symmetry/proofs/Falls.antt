@@ -43,13 +43,16 @@ falls_both xs ys first second between i j lt within = elim (cases_lt j (length x
 ]
 
 -- a ballot with every mark of another isn't smaller
-pub has_more : (a b : List Bool) → length a ≡ length b → ((t : ℕ) → t < length a → get_or b t false ≡ true → get_or a t false ≡ true) → IsNotSmaller a b
+pub has_more : (a b : List Bool) → length a ≡ length b
+    → ((t : ℕ) → t < length a → get_or b t false ≡ true → get_or a t false ≡ true)
+    → IsNotSmaller a b
 has_more [] [] long more = λ less. absurd (cc less)
 has_more [] (y ∷ ys) long more = absurd (omega (arith, long))
 has_more (x ∷ xs) [] long more = absurd (omega (arith, long))
 has_more (x ∷ xs) (y ∷ ys) long more = by_first x y (more 0 (omega arith)) (has_more xs ys (omega (arith, long)) (λ t lt. more (suc t) (omega (arith, lt))))
   where
-    by_first : (x y : Bool) → (y ≡ true → x ≡ true) → IsNotSmaller xs ys → IsNotSmaller (x ∷ xs) (y ∷ ys)
+    by_first : (x y : Bool) → (y ≡ true → x ≡ true) → IsNotSmaller xs ys
+        → IsNotSmaller (x ∷ xs) (y ∷ ys)
     by_first true true h rest = rest
     by_first true false h rest = λ less. absurd (cc less)
     by_first false true h rest = λ less. absurd (cc (h refl))

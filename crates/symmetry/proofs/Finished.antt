@@ -23,8 +23,11 @@ pub record IsCopy (contests : List Contest) (deck copy : List (List Bool)) : Typ
   pub size : length copy ≡ length deck
 
 -- from targets in order and ballots in order
-pub finished : (contests : List Contest) (deck copy result : Ballots) (sources : List ℕ) → IsDeck deck → deck.targets ≡ target_count contests → AreOrdered contests deck.ballots sources
-    → copy.ballots ≡ map (λ ballot. reading ballot sources) deck.ballots → IsPermutation copy.ballots result.ballots → AreFalling result.ballots → IsCopy contests deck.ballots result.ballots
+pub finished : (contests : List Contest) (deck copy result : Ballots) (sources : List ℕ)
+    → IsDeck deck → deck.targets ≡ target_count contests → AreOrdered contests deck.ballots sources
+    → copy.ballots ≡ map (λ ballot. reading ballot sources) deck.ballots
+    → IsPermutation copy.ballots result.ballots → AreFalling result.ballots
+    → IsCopy contests deck.ballots result.ballots
 finished contests deck copy result sources is targets ordered copy_is same falling =
     let n = target_count contests in
     let fits : Fits n deck.ballots = subst (λ (m : ℕ). Fits m deck.ballots) targets is.fits in

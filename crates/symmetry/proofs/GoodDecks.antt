@@ -31,25 +31,31 @@ blank_counted : (b : List Bool) → is_blank b ≡ (count_by (λ m. m) b == 0)
 blank_counted [] = refl
 blank_counted (m ∷ b) = by_mark m (blank_counted b)
   where
-    by_mark : (m : Bool) → is_blank b ≡ (count_by (λ x. x) b == 0) → (not m && list_all not b) ≡ (count_by (λ x. x) (m ∷ b) == 0)
+    by_mark : (m : Bool) → is_blank b ≡ (count_by (λ x. x) b == 0)
+        → (not m && list_all not b) ≡ (count_by (λ x. x) (m ∷ b) == 0)
     by_mark true rest = let a = sum_by-cons (λ (x : Bool). cond x 1 0) true b in grind (arith, nat_tests, a)
     by_mark false rest =
         let e : count_by (λ x. x) (false ∷ b) ≡ count_by (λ x. x) b = omega (arith, sum_by-cons (λ (x : Bool). cond x 1 0) false b) in
         rest ∙ ap (λ (k : ℕ). k == 0) (sym e)
 
 -- a reading has as many marks
-marks_kept : (n : ℕ) (f g : ℕ → ℕ) (b : List Bool) → IsTurn n f g → length b ≡ n → count_by (λ m. m) (reading b (made n f)) ≡ count_by (λ m. m) b
+marks_kept : (n : ℕ) (f g : ℕ → ℕ) (b : List Bool) → IsTurn n f g → length b ≡ n
+    → count_by (λ m. m) (reading b (made n f)) ≡ count_by (λ m. m) b
 marks_kept n f g b turn long =
     count_map (λ t. is_marked b t) (λ m. m) (made n f) ∙ (count_over (λ t. is_marked b t) n (made n f) (made_is n f g turn) ∙ (range_marks b n ∙ ap (count_by (λ (m : Bool). m)) (take_all n b (omega (arith, long)))))
 
-blank_kept : (n : ℕ) (f g : ℕ → ℕ) (deck : List (List Bool)) → IsTurn n f g → Fits n deck → count_by is_blank (relabelled n f deck) ≡ count_by is_blank deck
+blank_kept : (n : ℕ) (f g : ℕ → ℕ) (deck : List (List Bool)) → IsTurn n f g → Fits n deck
+    → count_by is_blank (relabelled n f deck) ≡ count_by is_blank deck
 blank_kept n f g deck turn fits =
     count_map (λ b. reading b (made n f)) is_blank deck ∙ count_alike (λ (b : List Bool). is_blank (reading b (made n f))) is_blank deck
     (λ j d lt. let b = get_or deck j d in blank_counted (reading b (made n f)) ∙ (ap (λ (k : ℕ). k == 0) (marks_kept n f g b turn (fits j d lt)) ∙ sym (blank_counted b)))
 
 -- a relabelled deck has each total at the new label
-pub totals_relabelled : (contests : List Contest) (deck : List (List Bool)) (f turn : ℕ → ℕ) (u : ℕ) → IsStructural contests f turn → f u < target_count contests → u < target_count contests → Fits (target_count contests) deck
-    → own_total contests (relabelled (target_count contests) f deck) u ≡ own_total contests deck (f u)
+pub totals_relabelled : (contests : List Contest) (deck : List (List Bool)) (f turn : ℕ → ℕ) (u : ℕ)
+    → IsStructural contests f turn → f u < target_count contests → u < target_count contests
+    → Fits (target_count contests) deck
+    → own_total contests (relabelled (target_count contests) f deck) u
+    ≡ own_total contests deck (f u)
 totals_relabelled contests deck f turn u is k h fits =
     let n = target_count contests in
     total_map contests deck (λ b. reading b (made n f)) (identity n) u
@@ -57,8 +63,10 @@ totals_relabelled contests deck f turn u is k h fits =
     (λ j d lt. ap (λ (r : List Bool). votes_for contests r u) (reading_identity (reading (get_or deck j d) (made n f)) n (reading_long (get_or deck j d) (made n f) ∙ made_long n f)))
     ∙ totals_move contests deck f turn u is k h fits)
 
-over_kept : (contests : List Contest) (deck : List (List Bool)) (f turn : ℕ → ℕ) (c : ℕ) → IsStructural contests f turn → c < length contests → Fits (target_count contests) deck
-    → count_by (λ b. is_overvoted contests b c) (relabelled (target_count contests) f deck) ≡ count_by (λ b. is_overvoted contests b (turn c)) deck
+over_kept : (contests : List Contest) (deck : List (List Bool)) (f turn : ℕ → ℕ) (c : ℕ)
+    → IsStructural contests f turn → c < length contests → Fits (target_count contests) deck
+    → count_by (λ b. is_overvoted contests b c) (relabelled (target_count contests) f deck)
+    ≡ count_by (λ b. is_overvoted contests b (turn c)) deck
 over_kept contests deck f turn c is lt fits =
     let n = target_count contests in
     count_map (λ b. reading b (made n f)) (λ (b : List Bool). is_overvoted contests b c) deck
@@ -76,7 +84,9 @@ either_way a b other = by_test (nat_lt a b) refl
     by_test false e = inr (grind (arith, nat_tests, e, other))
 
 -- a relabelled deck obeys the rules
-obeys_relabelled : (contests : List Contest) (rules : RuleSet) (deck : List (List Bool)) (f g turn : ℕ → ℕ) → IsTurn (target_count contests) f g → IsStructural contests f turn → Fits (target_count contests) deck
+obeys_relabelled : (contests : List Contest) (rules : RuleSet) (deck : List (List Bool))
+    (f g turn : ℕ → ℕ) → IsTurn (target_count contests) f g → IsStructural contests f turn
+    → Fits (target_count contests) deck
     → Obeys contests rules deck → Obeys contests rules (relabelled (target_count contests) f deck)
 obeys_relabelled contests rules deck f g turn is moved fits obeys =
     let n = target_count contests in
@@ -102,7 +112,9 @@ relabelled_fits n f deck k d lt =
     ap length (get_or-map (λ (b : List Bool). reading b (made n f)) deck k d d k_in) ∙ (reading_long (get_or deck k d) (made n f) ∙ made_long n f)
 
 -- a relabelled deck is good where the deck is
-good_relabelled : (contests : List Contest) (rules : RuleSet) (deck : List (List Bool)) (f g turn : ℕ → ℕ) → IsTurn (target_count contests) f g → IsStructural contests f turn → IsGood contests rules deck
+good_relabelled : (contests : List Contest) (rules : RuleSet) (deck : List (List Bool))
+    (f g turn : ℕ → ℕ) → IsTurn (target_count contests) f g → IsStructural contests f turn
+    → IsGood contests rules deck
     → IsGood contests rules (relabelled (target_count contests) f deck)
 good_relabelled contests rules deck f g turn is moved good = record {
   fits = relabelled_fits (target_count contests) f deck;
@@ -111,7 +123,8 @@ good_relabelled contests rules deck f g turn is moved good = record {
 }
 
 -- relabelled and then back, a deck is as it was
-relabelled_back : (n : ℕ) (f g : ℕ → ℕ) (deck : List (List Bool)) → IsTurn n f g → Fits n deck → relabelled n g (relabelled n f deck) ≡ deck
+relabelled_back : (n : ℕ) (f g : ℕ → ℕ) (deck : List (List Bool)) → IsTurn n f g → Fits n deck
+    → relabelled n g (relabelled n f deck) ≡ deck
 relabelled_back n f g deck turn fits =
     let both : List Bool → List Bool = λ b. reading (reading b (made n f)) (made n g) in
     map-map (λ b. reading b (made n g)) (λ b. reading b (made n f)) deck
@@ -122,16 +135,19 @@ relabelled_back n f g deck turn fits =
     ∙ (reading_made b n f g (λ u. u) turn.back_within turn.forth ∙ (ap (reading b) (map-id (identity n)) ∙ reading_identity b n (fits k d k_in))))
 
 -- the order of the ballots is of no matter to totals
-pub totals_permuted : (contests : List Contest) (deck result : List (List Bool)) (s : List ℕ) (u : ℕ) → IsPermutation deck result → total contests result s u ≡ total contests deck s u
+pub totals_permuted : (contests : List Contest) (deck result : List (List Bool)) (s : List ℕ)
+    (u : ℕ) → IsPermutation deck result → total contests result s u ≡ total contests deck s u
 totals_permuted contests deck result s u same = sum_by-IsPermutation (λ (b : List Bool). cond (votes_for contests (reading b s) u) 1 0) deck result same
 
-robust_permuted : (contests : List Contest) (deck result : List (List Bool)) → IsPermutation deck result → IsRobust contests deck → IsRobust contests result
+robust_permuted : (contests : List Contest) (deck result : List (List Bool))
+    → IsPermutation deck result → IsRobust contests deck → IsRobust contests result
 robust_permuted contests deck result same robust s is equal =
     robust s is (same_report contests deck s (identity (target_count contests)) (λ u lt.
     sym (totals_permuted contests deck result s u same) ∙ (report_same contests result s (identity (target_count contests)) u lt equal ∙ totals_permuted contests deck result (identity (target_count contests)) u same)))
 
 -- a deck in another order obeys the rules where the deck does
-obeys_permuted : (contests : List Contest) (rules : RuleSet) (deck result : List (List Bool)) → IsPermutation deck result → Obeys contests rules deck → Obeys contests rules result
+obeys_permuted : (contests : List Contest) (rules : RuleSet) (deck result : List (List Bool))
+    → IsPermutation deck result → Obeys contests rules deck → Obeys contests rules result
 obeys_permuted contests rules deck result same obeys =
     let at : (u : ℕ) → own_total contests result u ≡ own_total contests deck u = λ u. totals_permuted contests deck result (identity (target_count contests)) u same in
     record {
@@ -142,7 +158,8 @@ obeys_permuted contests rules deck result same obeys =
     }
 
 -- a deck in another order is good where the deck is
-good_permuted : (contests : List Contest) (rules : RuleSet) (deck result : List (List Bool)) → IsPermutation deck result → IsGood contests rules deck → IsGood contests rules result
+good_permuted : (contests : List Contest) (rules : RuleSet) (deck result : List (List Bool))
+    → IsPermutation deck result → IsGood contests rules deck → IsGood contests rules result
 good_permuted contests rules deck result same good = record {
   fits = All-permutation (λ (b : List Bool). length b ≡ target_count contests) deck result same good.fits;
   robust = robust_permuted contests deck result same good.robust;
@@ -150,13 +167,16 @@ good_permuted contests rules deck result same good = record {
 }
 
 -- a reordered deck is good where the deck is
-pub reordered_good : (contests : List Contest) (rules : RuleSet) (deck result : List (List Bool)) → IsReordered contests deck result → IsGood contests rules deck → IsGood contests rules result
+pub reordered_good : (contests : List Contest) (rules : RuleSet) (deck result : List (List Bool))
+    → IsReordered contests deck result → IsGood contests rules deck → IsGood contests rules result
 reordered_good contests rules deck result is good =
     good_permuted contests rules (relabelled (target_count contests) is.source deck) result is.ballots
     (good_relabelled contests rules deck is.source is.targets.back is.targets.turn is.targets.turns is.targets.forth good)
 
 -- and a deck is good where it is so reordered
-pub good_reordered : (contests : List Contest) (rules : RuleSet) (deck result : List (List Bool)) → Fits (target_count contests) deck → IsReordered contests deck result → IsGood contests rules result → IsGood contests rules deck
+pub good_reordered : (contests : List Contest) (rules : RuleSet) (deck result : List (List Bool))
+    → Fits (target_count contests) deck → IsReordered contests deck result
+    → IsGood contests rules result → IsGood contests rules deck
 good_reordered contests rules deck result fits is good =
     let n = target_count contests in
     let turned : IsTurn n is.targets.back is.source = record { within = is.targets.turns.back_within; back_within = is.targets.turns.within; back = is.targets.turns.forth; forth = is.targets.turns.back } in
@@ -165,12 +185,15 @@ good_reordered contests rules deck result fits is good =
     (good_permuted contests rules result (relabelled n is.source deck) (IsPermutation-sym (relabelled n is.source deck) result is.ballots) good))
 
 -- a reordered deck obeys the rules where the deck does
-pub reordered_obeys : (contests : List Contest) (rules : RuleSet) (deck result : List (List Bool)) → Fits (target_count contests) deck → IsReordered contests deck result → Obeys contests rules deck → Obeys contests rules result
+pub reordered_obeys : (contests : List Contest) (rules : RuleSet) (deck result : List (List Bool))
+    → Fits (target_count contests) deck → IsReordered contests deck result
+    → Obeys contests rules deck → Obeys contests rules result
 reordered_obeys contests rules deck result fits is obeys =
     obeys_permuted contests rules (relabelled (target_count contests) is.source deck) result is.ballots
     (obeys_relabelled contests rules deck is.source is.targets.back is.targets.turn is.targets.turns is.targets.forth fits obeys)
 
 -- it has as many ballots
-pub reordered_size : (contests : List Contest) (deck result : List (List Bool)) → IsReordered contests deck result → length result ≡ length deck
+pub reordered_size : (contests : List Contest) (deck result : List (List Bool))
+    → IsReordered contests deck result → length result ≡ length deck
 reordered_size contests deck result is =
     length_permutation (relabelled (target_count contests) is.source deck) result is.ballots ∙ length-map deck (λ (b : List Bool). reading b (made (target_count contests) is.source))

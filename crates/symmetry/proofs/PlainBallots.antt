@@ -40,7 +40,8 @@ weaker : (n t : ℕ) (ballot : List Bool) → IsSingle n (t + 1) ballot → IsSi
 weaker n t ballot s = record { target = s.target; from = omega (arith, s.from); within = s.within; is = s.is }
 
 -- the ballots of so many targets from t on
-pub are_single : (n : ℕ) (rules : RuleSet) (t m : ℕ) → t + m ≤ n → All (IsSingle n t) (flat_map (only_ballots n rules) (range_with_len t m))
+pub are_single : (n : ℕ) (rules : RuleSet) (t m : ℕ) → t + m ≤ n
+    → All (IsSingle n t) (flat_map (only_ballots n rules) (range_with_len t m))
 are_single n rules t zero le = λ i d lt. absurd (omega (arith, lt))
 are_single n rules t (suc m) le =
     All-append (IsSingle n t) (only_ballots n rules t) (flat_map (only_ballots n rules) (range_with_len (t + 1) m))
@@ -64,7 +65,8 @@ pub only_long : (n t : ℕ) → length (only n t) ≡ n
 only_long n t = length-set (replicate n false) t true ∙ length-replicate n false
 
 -- it isn't overvoted in the contest of its mark
-only_fine : (contests : List Contest) (t : ℕ) → IsShape contests → t < target_count contests → is_overvoted contests (only (target_count contests) t) (contest_of contests t) ≡ false
+only_fine : (contests : List Contest) (t : ℕ) → IsShape contests → t < target_count contests
+    → is_overvoted contests (only (target_count contests) t) (contest_of contests t) ≡ false
 only_fine contests t shape h =
     let n = target_count contests in
     let c = contest_of contests t in
@@ -80,7 +82,8 @@ only_fine contests t shape h =
     le-ltb (contest_at contests c).limit (mark_count contests (only n t) c) (omega (arith, one, limit))
 
 -- and votes for its target alone
-only_votes : (contests : List Contest) (t u : ℕ) → IsShape contests → t < target_count contests → u < target_count contests → votes_for contests (only (target_count contests) t) u ≡ (u == t)
+only_votes : (contests : List Contest) (t u : ℕ) → IsShape contests → t < target_count contests
+    → u < target_count contests → votes_for contests (only (target_count contests) t) u ≡ (u == t)
 only_votes contests t u shape h u_in = elim (cases_eq u t) [
   | inl same ↦
       let fine : is_overvoted contests (only (target_count contests) t) (contest_of contests u) ≡ false = ap (λ (x : ℕ). is_overvoted contests (only (target_count contests) t) (contest_of contests x)) same ∙ only_fine contests t shape h in
@@ -90,8 +93,10 @@ only_votes contests t u shape h u_in = elim (cases_eq u t) [
 ]
 
 -- how many ballots of one mark vote for target u, of those of so many targets from t on
-in_singles : (contests : List Contest) (rules : RuleSet) (u t m : ℕ) → IsShape contests → u < target_count contests → t + m ≤ target_count contests
-    → ((u < t) → count_by (λ b. votes_for contests b u) (flat_map (only_ballots (target_count contests) rules) (range_with_len t m)) ≡ 0)
+in_singles : (contests : List Contest) (rules : RuleSet) (u t m : ℕ) → IsShape contests
+    → u < target_count contests → t + m ≤ target_count contests
+    → ((u < t) → count_by (λ b. votes_for contests b u)
+    (flat_map (only_ballots (target_count contests) rules) (range_with_len t m)) ≡ 0)
     × (t ≤ u → u < t + m → count_by (λ b. votes_for contests b u) (flat_map (only_ballots (target_count contests) rules) (range_with_len t m)) ≡ u + 1 + (rules.least - 1))
 in_singles contests rules u t zero shape u_in le = (λ lt. refl, λ from to. absurd (omega (arith, from, to)))
 in_singles contests rules u t (suc m) shape u_in le =
@@ -110,7 +115,8 @@ in_singles contests rules u t (suc m) shape u_in le =
     )
 
 -- each ballot has a mark or none for each target
-pub plain_fits : (contests : List Contest) (rules : RuleSet) → Fits (target_count contests) (plain contests rules)
+pub plain_fits : (contests : List Contest) (rules : RuleSet)
+    → Fits (target_count contests) (plain contests rules)
 plain_fits contests rules =
     let n = target_count contests in
     let long : List Bool → Type 0 = λ b. length b ≡ n in
@@ -126,7 +132,9 @@ of_full contests rules c = rules.over * cond (not (is_overvoted contests (full c
 
 -- counts over the three kinds
 pub in_three : (contests : List Contest) (rules : RuleSet) (f : List Bool → Bool)
-    → count_by f (plain contests rules) ≡ count_by f (replicate rules.over (full contests)) + count_by f (singles contests rules) + count_by f (replicate rules.blank (unmarked contests))
+    → count_by f (plain contests rules)
+    ≡ count_by f (replicate rules.over (full contests)) + count_by f
+    (singles contests rules) + count_by f (replicate rules.blank (unmarked contests))
 in_three contests rules f =
     omega (
       arith,
@@ -135,8 +143,10 @@ in_three contests rules f =
     )
 
 -- the total of target u
-pub plain_total : (contests : List Contest) (rules : RuleSet) (u : ℕ) → IsShape contests → u < target_count contests
-    → own_total contests (plain contests rules) u ≡ of_full contests rules (contest_of contests u) + (u + 1 + (rules.least - 1))
+pub plain_total : (contests : List Contest) (rules : RuleSet) (u : ℕ) → IsShape contests
+    → u < target_count contests
+    → own_total contests (plain contests rules) u
+    ≡ of_full contests rules (contest_of contests u) + (u + 1 + (rules.least - 1))
 plain_total contests rules u shape h =
     let n = target_count contests in
     let votes : List Bool → Bool = λ b. votes_for contests b u in

@@ -21,7 +21,8 @@ use Rattle.symmetry.proofs.Copies.{full, unmarked, full_marks, all_copies, full_
 use Rattle.symmetry.proofs.Falls.{IsNotSmaller, Falls, are_falling, falls_both, copies_fall, has_more, earlier_mark}
 use Rattle.symmetry.proofs.PlainBallots.{singles, plain, are_single, only_long, of_full, in_three, plain_total}
 
-pub plain_obeys : (contests : List Contest) (rules : RuleSet) → IsShape contests → Obeys contests rules (plain contests rules)
+pub plain_obeys : (contests : List Contest) (rules : RuleSet) → IsShape contests
+    → Obeys contests rules (plain contests rules)
 plain_obeys contests rules shape = record {
   blank = omega (arith, in_three contests rules is_blank, all_copies is_blank rules.blank (unmarked contests) (unmarked_blank contests));
   over = λ c h can. omega (arith, in_three contests rules (λ b. is_overvoted contests b c), all_copies (λ b. is_overvoted contests b c) rules.over (full contests) (full_overvoted contests c h can));
@@ -32,7 +33,8 @@ plain_obeys contests rules shape = record {
 }
 
 -- the ballots are in order
-singles_fall : (n : ℕ) (rules : RuleSet) (t m : ℕ) → t + m ≤ n → Falls (flat_map (only_ballots n rules) (range_with_len t m))
+singles_fall : (n : ℕ) (rules : RuleSet) (t m : ℕ) → t + m ≤ n
+    → Falls (flat_map (only_ballots n rules) (range_with_len t m))
 singles_fall n rules t zero le = λ i j lt within. absurd (omega (arith, within))
 singles_fall n rules t (suc m) le =
     let copies = t + 1 + (rules.least - 1) in
@@ -43,23 +45,29 @@ singles_fall n rules t (suc m) le =
     let s = are_single n rules (t + 1) m (omega (arith, le)) j [] j_in in
     earlier_mark n t s.target (omega (arith, s.from)) s.within ((λ k. slice_cmp bool_cmp (sym here k) (sym s.is k)) ∙ less))
 
--- a ballot that is marked everywhere isn't smaller than another, nor one smaller that is marked nowhere
-full_first : (contests : List Contest) (b : List Bool) → length b ≡ target_count contests → IsNotSmaller (full contests) b
+-- a ballot that is marked everywhere isn't smaller than another, nor one smaller that is marked
+-- nowhere
+full_first : (contests : List Contest) (b : List Bool) → length b ≡ target_count contests
+    → IsNotSmaller (full contests) b
 full_first contests b long =
     let n = target_count contests in
     has_more (full contests) b (length-replicate n true ∙ sym long) (λ t lt is. get_or-replicate n t true false (omega (arith, lt, length-replicate n true)))
 
-unmarked_last : (contests : List Contest) (b : List Bool) → length b ≡ target_count contests → IsNotSmaller b (unmarked contests)
+unmarked_last : (contests : List Contest) (b : List Bool) → length b ≡ target_count contests
+    → IsNotSmaller b (unmarked contests)
 unmarked_last contests b long =
     let n = target_count contests in
     has_more b (unmarked contests) (long ∙ sym (length-replicate n false)) (λ t lt is. let none = get_or-replicate n t false false (omega (arith, lt, long)) in let bad : false ≡ true = sym none ∙ is in absurd (cc bad))
 
-single_long : (contests : List Contest) (rules : RuleSet) (j : ℕ) → j < length (singles contests rules) → length (get_or (singles contests rules) j []) ≡ target_count contests
+single_long : (contests : List Contest) (rules : RuleSet) (j : ℕ)
+    → j < length (singles contests rules)
+    → length (get_or (singles contests rules) j []) ≡ target_count contests
 single_long contests rules j lt =
     let n = target_count contests in
     let s = are_single n rules 0 n (omega arith) j [] lt in ap length s.is ∙ only_long n s.target
 
-front_falls : (contests : List Contest) (rules : RuleSet) → Falls (replicate rules.over (full contests) ++ singles contests rules)
+front_falls : (contests : List Contest) (rules : RuleSet)
+    → Falls (replicate rules.over (full contests) ++ singles contests rules)
 front_falls contests rules =
     let n = target_count contests in
     falls_both (replicate rules.over (full contests)) (singles contests rules) (copies_fall rules.over (full contests)) (singles_fall n rules 0 n (omega arith))
@@ -67,7 +75,9 @@ front_falls contests rules =
     let here = get_or-replicate rules.over i (full contests) [] (omega (arith, i_in, length-replicate rules.over (full contests))) in
     full_first contests (get_or (singles contests rules) j []) (single_long contests rules j j_in) ((λ k. slice_cmp bool_cmp (sym here k) (get_or (singles contests rules) j [])) ∙ less))
 
-front_long : (contests : List Contest) (rules : RuleSet) → All (λ b. length b ≡ target_count contests) (replicate rules.over (full contests) ++ singles contests rules)
+front_long : (contests : List Contest) (rules : RuleSet)
+    → All (λ b. length b ≡ target_count contests)
+    (replicate rules.over (full contests) ++ singles contests rules)
 front_long contests rules =
     let n = target_count contests in
     let long : List Bool → Type 0 = λ b. length b ≡ n in
@@ -83,12 +93,14 @@ plain_falls contests rules =
     unmarked_last contests (get_or front i []) (front_long contests rules i [] i_in) ((λ k. slice_cmp bool_cmp (get_or front i []) (sym there k)) ∙ less))
 
 -- totals rise, within contests
-plain_rise : (contests : List Contest) (rules : RuleSet) → IsShape contests → RiseWithin contests (own_total contests (plain contests rules))
+plain_rise : (contests : List Contest) (rules : RuleSet) → IsShape contests
+    → RiseWithin contests (own_total contests (plain contests rules))
 plain_rise contests rules shape t lt same =
     omega (arith, plain_total contests rules t shape (omega (arith, lt)), plain_total contests rules (t + 1) shape lt, ap (of_full contests rules) same)
 
 -- lists of which each entry is at most the other's compare so
-rises_to : (f : ℕ → ℕ) (a b n : ℕ) → ((i : ℕ) → i < n → f (a + i) ≤ f (b + i)) → slice_cmp nat_cmp (map f (range_with_len a n)) (map f (range_with_len b n)) ≢ Greater
+rises_to : (f : ℕ → ℕ) (a b n : ℕ) → ((i : ℕ) → i < n → f (a + i) ≤ f (b + i))
+    → slice_cmp nat_cmp (map f (range_with_len a n)) (map f (range_with_len b n)) ≢ Greater
 rises_to f a b zero le = λ greater. absurd (cc greater)
 rises_to f a b (suc n) le = by_order (f a) (f b) (omega (arith, le 0 (omega arith), (ap f a_none), (ap f b_none))) (rises_to f (a + 1) (b + 1) n (λ i lt.
     let a_next : a + suc i ≡ a + 1 + i = omega arith in
@@ -101,8 +113,10 @@ rises_to f a b (suc n) le = by_order (f a) (f b) (omega (arith, le 0 (omega arit
     b_none : b + 0 ≡ b
     b_none = omega arith
 
-    by_order : (x y : ℕ) → x ≤ y → slice_cmp nat_cmp (map f (range_with_len (a + 1) n)) (map f (range_with_len (b + 1) n)) ≢ Greater
-        → slice_cmp nat_cmp (x ∷ map f (range_with_len (a + 1) n)) (y ∷ map f (range_with_len (b + 1) n)) ≢ Greater
+    by_order : (x y : ℕ) → x ≤ y → slice_cmp nat_cmp (map f (range_with_len (a + 1) n))
+        (map f (range_with_len (b + 1) n)) ≢ Greater
+        → slice_cmp nat_cmp (x ∷ map f (range_with_len (a + 1) n))
+        (y ∷ map f (range_with_len (b + 1) n)) ≢ Greater
     by_order x y h rest = elim (cases_lt x y) [
       | inl lt ↦
           let is : nat_cmp x y ≡ Less = grind (arith, nat_tests, lt) in
@@ -113,13 +127,16 @@ rises_to f a b (suc n) le = by_order (f a) (f b) (omega (arith, le 0 (omega arit
     ]
 
 -- full ballots give contests of one shape the same votes
-same_full : (contests : List Contest) (rules : RuleSet) (c d : ℕ) → c < length contests → d < length contests → contest_at contests c ≡ contest_at contests d → of_full contests rules c ≡ of_full contests rules d
+same_full : (contests : List Contest) (rules : RuleSet) (c d : ℕ) → c < length contests
+    → d < length contests → contest_at contests c ≡ contest_at contests d
+    → of_full contests rules c ≡ of_full contests rules d
 same_full contests rules c d h k same =
     let limits : (contest_at contests c).limit ≡ (contest_at contests d).limit = ap (λ (x : Contest). x.limit) same in
     let counts = full_marks contests c h ∙ (ap (λ (x : Contest). x.targets) same ∙ sym (full_marks contests d k)) in
     λ i. rules.over * cond (not (nat_lt (limits i) (counts i))) 1 0
 
-plain_earlier : (contests : List Contest) (rules : RuleSet) → IsShape contests → AreEarlier contests (own_total contests (plain contests rules))
+plain_earlier : (contests : List Contest) (rules : RuleSet) → IsShape contests
+    → AreEarlier contests (own_total contests (plain contests rules))
 plain_earlier contests rules shape c d c_in lt d_in same greater =
     let total = own_total contests (plain contests rules) in
     let n = (contest_at contests c).targets in
@@ -142,6 +159,7 @@ plain_earlier contests rules shape c d c_in lt d_in same greater =
     ))
     (ap (λ (m : ℕ). slice_cmp nat_cmp (totals_of contests total c) (map total (range_with_len (first_target contests d) m))) (sym wide) ∙ greater)
 
-pub plain_canonical : (contests : List Contest) (rules : RuleSet) → IsShape contests → IsCanonical contests (plain contests rules)
+pub plain_canonical : (contests : List Contest) (rules : RuleSet) → IsShape contests
+    → IsCanonical contests (plain contests rules)
 plain_canonical contests rules shape =
     canonical_of contests (plain contests rules) (are_falling (plain contests rules) (plain_falls contests rules)) (plain_rise contests rules shape) (plain_earlier contests rules shape)

@@ -13,7 +13,9 @@ use Rattle.readings.proofs.TargetExchange.{same_permutation, exchange_structural
 use Rattle.readings.proofs.ContestExchange.{contests_turn, contests_structural}
 use Rattle.symmetry.specs.Reordering.{IsReordering}
 
-structural_then : (contests : List Contest) (f h turn turned : ℕ → ℕ) → IsStructural contests f turn → IsStructural contests h turned → ((u : ℕ) → u < target_count contests → h u < target_count contests)
+structural_then : (contests : List Contest) (f h turn turned : ℕ → ℕ) → IsStructural contests f turn
+    → IsStructural contests h turned
+    → ((u : ℕ) → u < target_count contests → h u < target_count contests)
     → IsStructural contests (λ u. f (h u)) (λ c. turn (turned c))
 structural_then contests f h turn turned a b inside = record {
   within = λ c lt. a.within (turned c) (b.within c lt);
@@ -24,7 +26,8 @@ structural_then contests f h turn turned a b inside = record {
 }
 
 -- a reordering of what was reordered
-pub reordering_then : (contests : List Contest) (f h : ℕ → ℕ) → IsReordering contests f → IsReordering contests h → IsReordering contests (λ u. f (h u))
+pub reordering_then : (contests : List Contest) (f h : ℕ → ℕ) → IsReordering contests f
+    → IsReordering contests h → IsReordering contests (λ u. f (h u))
 reordering_then contests f h a b = record {
   back = λ u. b.back (a.back u);
   turn = λ c. a.turn (b.turn c);
@@ -59,7 +62,8 @@ no_reordering contests = record {
 }
 
 -- two targets of one contest exchanged
-pub targets_exchanged : (contests : List Contest) (c t u : ℕ) → IsOf contests c t → IsOf contests c u → t ≢ u → IsReordering contests (exchange t u)
+pub targets_exchanged : (contests : List Contest) (c t u : ℕ) → IsOf contests c t
+    → IsOf contests c u → t ≢ u → IsReordering contests (exchange t u)
 targets_exchanged contests c t u a b other =
     let moved = exchange_structural contests c t u a b other in
     record {
@@ -72,7 +76,9 @@ targets_exchanged contests c t u a b other =
     }
 
 -- two contests of the same limit and number of targets exchanged
-pub contests_exchanged : (contests : List Contest) (c d : ℕ) → c < length contests → d < length contests → contest_at contests c ≡ contest_at contests d → IsReordering contests (exchange_contests contests c d)
+pub contests_exchanged : (contests : List Contest) (c d : ℕ) → c < length contests
+    → d < length contests → contest_at contests c ≡ contest_at contests d
+    → IsReordering contests (exchange_contests contests c d)
 contests_exchanged contests c d c_in d_in shape =
     let moved = contests_structural contests c d c_in d_in shape in
     record {

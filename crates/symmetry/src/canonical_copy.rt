@@ -38,10 +38,10 @@ fn ordered_targets(alloc: Global, shape: &Shape, deck: &Deck) -> Result<Vec<u16>
     Ok(sources)
 }
 
-/// The canonical deck that arises by reordering the deck's ballots, the targets within its contests,
-/// and contests of the same limit and number of targets. It has as many ballots; under any rules it is
-/// good exactly where the given deck is, and obeys them where that deck does. After want of memory the
-/// given deck is dropped.
+/// The canonical deck that arises by reordering the deck's ballots, the targets within its
+/// contests, and contests of the same limit and number of targets. It has as many ballots; under
+/// any rules it is good exactly where the given deck is, and obeys them where that deck does. After
+/// want of memory the given deck is dropped.
 pub fn canonical(alloc: Global, shape: &Shape, deck: Deck) -> Result<Deck, AllocError>
     requires { deck.targets ≡ target_count shape.now }
     ensures canonical { IfOk result (λ copy. IsCanonical shape.now copy.ballots) }

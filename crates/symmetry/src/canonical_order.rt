@@ -87,13 +87,13 @@ fn is_greater(shape: &Shape, deck: &Deck, c: u16, d: u16) -> bool
     false
 }
 
-// Whether contest c's totals aren't greater than those of any later contest of its limit and
-// number of
-// targets.
+// Whether contest c's totals aren't greater than those of any later contest of its limit and number
+// of targets.
 fn is_least(shape: &Shape, deck: &Deck, c: u16) -> bool
     requires targets { deck.now.targets ≡ target_count shape.now }
     requires contest { c < length shape.now }
-    ensures { IsTrue result ↔ IsLeast (contest_at shape.now) (IsNotGreater shape.now (own_total shape.now deck.now.ballots)) c (length shape.now) }
+    ensures { IsTrue result ↔ IsLeast (contest_at shape.now)
+        (IsNotGreater shape.now (own_total shape.now deck.now.ballots)) c (length shape.now) }
 {
     let contests = shape.contests();
     for d in c + 1..contests {

@@ -1,5 +1,5 @@
-//! Canonical decks: of all reorderings of a deck's ballots, of the targets within its contests and of
-//! contests of the same limit and number of targets, one.
+//! Canonical decks: of all reorderings of a deck's ballots, of the targets within its contests and
+//! of contests of the same limit and number of targets, one.
 #![tactic(auto)]
 
 mod canonical_copy;

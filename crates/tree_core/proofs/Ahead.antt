@@ -18,18 +18,22 @@ module _ {S B R : Type 0} (steps : Steps S B R) where
   ahead-nil [] = refl
   ahead-nil (n ∷ ns) = ahead-nil ns
 
-  pub ahead-append : (ss : List S) (ns ms : List (Node B R)) → ahead steps ss (ns ++ ms) ≡ ahead steps (ahead steps ss ns) ms
+  pub ahead-append : (ss : List S) (ns ms : List (Node B R))
+      → ahead steps ss (ns ++ ms) ≡ ahead steps (ahead steps ss ns) ms
   ahead-append ss [] ms = refl
   ahead-append ss (n ∷ ns) ms = ahead-append (after steps ss n) ns ms
 
   mutual
-    pub ahead-preorder : (t : Rose B R) (s : S) (ss : List S) (ns : List (Node B R)) → ahead steps (s ∷ ss) (preorder t ++ ns) ≡ ahead steps ss ns
+    pub ahead-preorder : (t : Rose B R) (s : S) (ss : List S) (ns : List (Node B R))
+        → ahead steps (s ∷ ss) (preorder t ++ ns) ≡ ahead steps ss ns
     ahead-preorder (Closed r) s ss ns = refl
     ahead-preorder (Forked l ts) s ss ns = ahead-preorder_all ts s l 0 ss ns
     ahead-preorder Opened s ss ns = refl
 
-    pub ahead-preorder_all : (ts : Roses B R) (s : S) (l : B) (k : ℕ) (ss : List S) (ns : List (Node B R))
-        → ahead steps (kids_from steps s l k (count ts) ++ ss) (preorder_all ts ++ ns) ≡ ahead steps ss ns
+    pub ahead-preorder_all : (ts : Roses B R) (s : S) (l : B) (k : ℕ) (ss : List S)
+        (ns : List (Node B R))
+        → ahead steps (kids_from steps s l k (count ts) ++ ss) (preorder_all ts ++ ns)
+        ≡ ahead steps ss ns
     ahead-preorder_all none s l k ss ns = refl
     ahead-preorder_all (more t ts) s l k ss ns =
         ap (ahead steps (steps.kid s l k ∷ (kids_from steps s l (suc k) (count ts) ++ ss))) (append_assoc (preorder t) (preorder_all ts) ns)
@@ -41,5 +45,6 @@ module _ {S B R : Type 0} (steps : Steps S B R) where
   ahead-tree s ns h = ap (ahead steps (s ∷ [])) (sym (append-nil (preorder (tree_of ns)) ∙ h)) ∙ ahead-preorder (tree_of ns) s [] []
 
   -- what is to come after one more node
-  pub ahead-next : (s : S) (ns : List (Node B R)) (i : ℕ) (n : Node B R) → slice_get ns i ≡ Some n → ahead steps (s ∷ []) (take (suc i) ns) ≡ after steps (ahead steps (s ∷ []) (take i ns)) n
+  pub ahead-next : (s : S) (ns : List (Node B R)) (i : ℕ) (n : Node B R) → slice_get ns i ≡ Some n
+      → ahead steps (s ∷ []) (take (suc i) ns) ≡ after steps (ahead steps (s ∷ []) (take i ns)) n
   ahead-next s ns i n at = ap (ahead steps (s ∷ [])) (take-next ns i n at) ∙ ahead-append (s ∷ []) (take i ns) (n ∷ [])

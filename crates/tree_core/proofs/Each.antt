@@ -12,8 +12,10 @@ use Rattle.tree_core.proofs.Lists.{slice_get-last, slice_get-front, take-next}
 
 module _ {S B R : Type 0} (steps : Steps S B R) where
   -- appending a node changes nothing at the earlier places
-  pub each_snoc : (s : S) (ns : List (Node B R)) (n : Node B R) (t : S) (P : List (Node B R) → S → Node B R → Type 0)
-      → EachPlace steps s ns P → slice_get (ahead steps (s ∷ []) ns) 0 ≡ Some t → P ns t n → EachPlace steps s (ns ++ (n ∷ [])) P
+  pub each_snoc : (s : S) (ns : List (Node B R)) (n : Node B R) (t : S)
+      (P : List (Node B R) → S → Node B R → Type 0)
+      → EachPlace steps s ns P → slice_get (ahead steps (s ∷ []) ns) 0 ≡ Some t → P ns t n
+      → EachPlace steps s (ns ++ (n ∷ [])) P
   each_snoc s ns n t P h at p i u m get state = elim (cases_lt i (length ns)) [ inl below ↦ early below | inr above ↦ late above ]
     where
       early : i < length ns → P (take i (ns ++ (n ∷ []))) u m
@@ -37,6 +39,8 @@ module _ {S B R : Type 0} (steps : Steps S B R) where
   each_nil s P i u m get state = absurd (cc)
 
   -- one more of the nodes of a list
-  pub each_next : (s : S) (ns : List (Node B R)) (i : ℕ) (n : Node B R) (t : S) (P : List (Node B R) → S → Node B R → Type 0)
-      → EachPlace steps s (take i ns) P → slice_get ns i ≡ Some n → state_at steps s ns i ≡ Some t → P (take i ns) t n → EachPlace steps s (take (suc i) ns) P
+  pub each_next : (s : S) (ns : List (Node B R)) (i : ℕ) (n : Node B R) (t : S)
+      (P : List (Node B R) → S → Node B R → Type 0)
+      → EachPlace steps s (take i ns) P → slice_get ns i ≡ Some n → state_at steps s ns i ≡ Some t
+      → P (take i ns) t n → EachPlace steps s (take (suc i) ns) P
   each_next s ns i n t P h get at p = rw (take-next ns i n get) (each_snoc s (take i ns) n t P h at p)

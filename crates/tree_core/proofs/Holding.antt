@@ -18,13 +18,16 @@ module _ {S B R : Type 0} (steps : Steps S B R) (open_holds : Bool) where
   HoldsAll (s ∷ ss) (n ∷ ns) = NodeHolds open_holds steps s n × HoldsAll (after steps (s ∷ ss) n) ns
 
   mutual
-    pub checks_from_all : (t : Rose B R) (s : S) (ss : List S) (ns : List (Node B R)) → HoldsAll (s ∷ ss) (preorder t ++ ns) → ChecksWith open_holds steps s t × HoldsAll ss ns
+    pub checks_from_all : (t : Rose B R) (s : S) (ss : List S) (ns : List (Node B R))
+        → HoldsAll (s ∷ ss) (preorder t ++ ns) → ChecksWith open_holds steps s t × HoldsAll ss ns
     checks_from_all (Closed r) s ss ns h = (h.0, h.1)
     checks_from_all (Forked l ts) s ss ns h = let k = kids_from_all ts s l 0 ss ns h.1 in ((h.0, k.0), k.1)
     checks_from_all Opened s ss ns h = (h.0, h.1)
 
-    pub kids_from_all : (ts : Roses B R) (s : S) (l : B) (k : ℕ) (ss : List S) (ns : List (Node B R))
-        → HoldsAll (kids_from steps s l k (count ts) ++ ss) (preorder_all ts ++ ns) → KidsCheckWith open_holds steps s l k ts × HoldsAll ss ns
+    pub kids_from_all : (ts : Roses B R) (s : S) (l : B) (k : ℕ) (ss : List S)
+        (ns : List (Node B R))
+        → HoldsAll (kids_from steps s l k (count ts) ++ ss) (preorder_all ts ++ ns)
+        → KidsCheckWith open_holds steps s l k ts × HoldsAll ss ns
     kids_from_all none s l k ss ns h = (tt, h)
     kids_from_all (more t ts) s l k ss ns h =
         let first = checks_from_all t (steps.kid s l k) (kids_from steps s l (suc k) (count ts) ++ ss) (preorder_all ts ++ ns)
@@ -33,13 +36,16 @@ module _ {S B R : Type 0} (steps : Steps S B R) (open_holds : Bool) where
         ((first.0, others.0), others.1)
 
   mutual
-    pub all_from_checks : (t : Rose B R) (s : S) (ss : List S) (ns : List (Node B R)) → ChecksWith open_holds steps s t → HoldsAll ss ns → HoldsAll (s ∷ ss) (preorder t ++ ns)
+    pub all_from_checks : (t : Rose B R) (s : S) (ss : List S) (ns : List (Node B R))
+        → ChecksWith open_holds steps s t → HoldsAll ss ns → HoldsAll (s ∷ ss) (preorder t ++ ns)
     all_from_checks (Closed r) s ss ns c h = (c, h)
     all_from_checks (Forked l ts) s ss ns c h = (c.0, all_from_kids ts s l 0 ss ns c.1 h)
     all_from_checks Opened s ss ns c h = (c, h)
 
-    pub all_from_kids : (ts : Roses B R) (s : S) (l : B) (k : ℕ) (ss : List S) (ns : List (Node B R))
-        → KidsCheckWith open_holds steps s l k ts → HoldsAll ss ns → HoldsAll (kids_from steps s l k (count ts) ++ ss) (preorder_all ts ++ ns)
+    pub all_from_kids : (ts : Roses B R) (s : S) (l : B) (k : ℕ) (ss : List S)
+        (ns : List (Node B R))
+        → KidsCheckWith open_holds steps s l k ts → HoldsAll ss ns
+        → HoldsAll (kids_from steps s l k (count ts) ++ ss) (preorder_all ts ++ ns)
     all_from_kids none s l k ss ns c h = h
     all_from_kids (more t ts) s l k ss ns c h =
         subst (HoldsAll (steps.kid s l k ∷ (kids_from steps s l (suc k) (count ts) ++ ss))) (sym (append_assoc (preorder t) (preorder_all ts) ns))
@@ -65,14 +71,19 @@ module _ {S B R : Type 0} (steps : Steps S B R) (open_holds : Bool) where
   each_from_all (s ∷ ss) (n ∷ ns) h (suc i) t m get state = each_from_all (after steps (s ∷ ss) n) ns h.1 i t m get state
 
   -- a list that lists a tree holds at each place exactly where the tree checks
-  pub checks_from_each : (s : S) (ns : List (Node B R)) → IsTree ns → EachPlace steps s ns (λ _ t n. NodeHolds open_holds steps t n) → ChecksWith open_holds steps s (tree_of ns)
+  pub checks_from_each : (s : S) (ns : List (Node B R)) → IsTree ns
+      → EachPlace steps s ns (λ _ t n. NodeHolds open_holds steps t n)
+      → ChecksWith open_holds steps s (tree_of ns)
   checks_from_each s ns tree h =
       (checks_from_all (tree_of ns) s [] [] (subst (HoldsAll (s ∷ [])) (sym (append-nil (preorder (tree_of ns)) ∙ tree)) (all_from_each (s ∷ []) ns h))).0
 
-  pub each_from_checks : (s : S) (ns : List (Node B R)) → IsTree ns → ChecksWith open_holds steps s (tree_of ns) → EachPlace steps s ns (λ _ t n. NodeHolds open_holds steps t n)
+  pub each_from_checks : (s : S) (ns : List (Node B R)) → IsTree ns
+      → ChecksWith open_holds steps s (tree_of ns)
+      → EachPlace steps s ns (λ _ t n. NodeHolds open_holds steps t n)
   each_from_checks s ns tree h =
       each_from_all (s ∷ []) ns (subst (HoldsAll (s ∷ [])) (append-nil (preorder (tree_of ns)) ∙ tree) (all_from_checks (tree_of ns) s [] [] h tt))
 
   -- a fault keeps the tree from checking
-  pub fault_refutes : (s : S) (ns : List (Node B R)) (i : ℕ) → IsTree ns → IsFirstFault open_holds steps s ns i → ChecksWith open_holds steps s (tree_of ns) → ⊥
+  pub fault_refutes : (s : S) (ns : List (Node B R)) (i : ℕ) → IsTree ns
+      → IsFirstFault open_holds steps s ns i → ChecksWith open_holds steps s (tree_of ns) → ⊥
   fault_refutes s ns i tree f h = f.fails (each_from_checks s ns tree h i f.state f.node f.is_node f.at_place)

@@ -14,19 +14,24 @@ count-front zero ts h = refl
 count-front (suc n) none h = absurd (omega arith)
 count-front (suc n) (more t ts) h = ap suc (count-front n ts (omega arith))
 
-count-behind : {B R : Type 0} (n : ℕ) (ts : Roses B R) → n ≤ count ts → n + count (behind n ts) ≡ count ts
+count-behind : {B R : Type 0} (n : ℕ) (ts : Roses B R) → n ≤ count ts
+    → n + count (behind n ts) ≡ count ts
 count-behind zero ts h = omega arith
 count-behind (suc n) none h = absurd (omega arith)
 count-behind (suc n) (more t ts) h = omega (arith, count-behind n ts (omega arith))
 
-preorder-split : {B R : Type 0} (n : ℕ) (ts : Roses B R) → preorder_all (front n ts) ++ preorder_all (behind n ts) ≡ preorder_all ts
+preorder-split : {B R : Type 0} (n : ℕ) (ts : Roses B R)
+    → preorder_all (front n ts) ++ preorder_all (behind n ts) ≡ preorder_all ts
 preorder-split zero ts = refl
 preorder-split (suc n) none = refl
 preorder-split (suc n) (more t ts) = append_assoc (preorder t) (preorder_all (front n ts)) (preorder_all (behind n ts)) ∙ ap (λ xs. preorder t ++ xs) (preorder-split n ts)
 
 -- nodes that use up w states list w trees
-pub listed : {S B R : Type 0} (steps : Steps S B R) (ss : List S) (ns : List (Node B R)) (n : Node B R) (s : S) (tc : List S)
-    → ahead steps ss ns ≡ s ∷ tc → after steps (s ∷ tc) n ≡ [] → (preorder_all (trees_of (ns ++ (n ∷ []))) ≡ ns ++ (n ∷ [])) × (count (trees_of (ns ++ (n ∷ []))) ≡ length ss)
+pub listed : {S B R : Type 0} (steps : Steps S B R) (ss : List S) (ns : List (Node B R))
+    (n : Node B R) (s : S) (tc : List S)
+    → ahead steps ss ns ≡ s ∷ tc → after steps (s ∷ tc) n ≡ []
+    → (preorder_all (trees_of (ns ++ (n ∷ []))) ≡ ns ++ (n ∷ []))
+    × (count (trees_of (ns ++ (n ∷ []))) ≡ length ss)
 listed steps ss [] (Close r) s tc e d = (refl, rw e (rw d refl))
 listed steps ss [] Open s tc e d = (refl, rw e (rw d refl))
 listed steps ss [] (Fork l zero) s tc e d = (refl, rw e (rw d refl))
@@ -42,13 +47,15 @@ listed steps (t ∷ ss) (Fork l k ∷ ns) n s tc e d =
       omega (arith, count-behind k (trees_of (ns ++ (n ∷ []))) (omega arith)),
     )
 
-one_tree : {B R : Type 0} (ns : List (Node B R)) (ts : Roses B R) → trees_of ns ≡ ts → preorder_all ts ≡ ns → count ts ≡ 1 → IsTree ns
+one_tree : {B R : Type 0} (ns : List (Node B R)) (ts : Roses B R) → trees_of ns ≡ ts
+    → preorder_all ts ≡ ns → count ts ≡ 1 → IsTree ns
 one_tree ns none e p c = absurd (omega arith)
 one_tree ns (more t none) e p c = ap (λ us. preorder (first us)) e ∙ sym (append-nil (preorder t)) ∙ p
 one_tree ns (more t (more u us)) e p c = absurd (omega arith)
 
 -- a walk that comes to its end has gone over one tree
-pub IsTree-walk : {S B R : Type 0} (steps : Steps S B R) (root : S) (ns : List (Node B R)) (n : Node B R) (s : S) (tc : List S)
+pub IsTree-walk : {S B R : Type 0} (steps : Steps S B R) (root : S) (ns : List (Node B R))
+    (n : Node B R) (s : S) (tc : List S)
     → ahead steps (root ∷ []) ns ≡ s ∷ tc → after steps (s ∷ tc) n ≡ [] → IsTree (ns ++ (n ∷ []))
 IsTree-walk steps root ns n s tc e d =
     let h = listed steps (root ∷ []) ns n s tc e d in

@@ -21,14 +21,16 @@ behind-join none us = refl
 behind-join (more t ts) us = behind-join ts us
 
 mutual
-  pub trees_of-preorder : {B R : Type 0} (t : Rose B R) (ns : List (Node B R)) → trees_of (preorder t ++ ns) ≡ more t (trees_of ns)
+  pub trees_of-preorder : {B R : Type 0} (t : Rose B R) (ns : List (Node B R))
+      → trees_of (preorder t ++ ns) ≡ more t (trees_of ns)
   trees_of-preorder (Closed r) ns = refl
   trees_of-preorder (Forked l ts) ns =
       let e = trees_of-preorder_all ts ns in
       rw (e, front-join ts (trees_of ns), behind-join ts (trees_of ns)) refl
   trees_of-preorder Opened ns = refl
 
-  pub trees_of-preorder_all : {B R : Type 0} (ts : Roses B R) (ns : List (Node B R)) → trees_of (preorder_all ts ++ ns) ≡ join ts (trees_of ns)
+  pub trees_of-preorder_all : {B R : Type 0} (ts : Roses B R) (ns : List (Node B R))
+      → trees_of (preorder_all ts ++ ns) ≡ join ts (trees_of ns)
   trees_of-preorder_all none ns = refl
   trees_of-preorder_all (more t ts) ns =
       rw (append_assoc (preorder t) (preorder_all ts) ns, trees_of-preorder t (preorder_all ts ++ ns), trees_of-preorder_all ts ns) refl
@@ -52,11 +54,13 @@ count-roses_of : {B R : Type 0} (nss : List (List (Node B R))) → count (roses_
 count-roses_of [] = refl
 count-roses_of (ns ∷ nss) = ap suc (count-roses_of nss)
 
-preorder-roses_of : {B R : Type 0} (nss : List (List (Node B R))) → AllByRecursion IsTree nss → preorder_all (roses_of nss) ≡ flat_map (λ k. k) nss
+preorder-roses_of : {B R : Type 0} (nss : List (List (Node B R))) → AllByRecursion IsTree nss
+    → preorder_all (roses_of nss) ≡ flat_map (λ k. k) nss
 preorder-roses_of [] a = refl
 preorder-roses_of (ns ∷ nss) a = rw (a.0, preorder-roses_of nss a.1) refl
 
 -- a Fork over lists that each list one tree lists one tree
-pub IsTree-fork : {B R : Type 0} (l : B) (nss : List (List (Node B R))) → AllByRecursion IsTree nss → IsTree (Fork l (length nss) ∷ flat_map (λ k. k) nss)
+pub IsTree-fork : {B R : Type 0} (l : B) (nss : List (List (Node B R))) → AllByRecursion IsTree nss
+    → IsTree (Fork l (length nss) ∷ flat_map (λ k. k) nss)
 IsTree-fork l nss a =
     IsTree-by (Forked l (roses_of nss)) _ (rw (count-roses_of nss, preorder-roses_of nss a) refl)

@@ -12,8 +12,7 @@ abbrev pub places_of : List Entry → List ℕ
 places_of way = map (λ entry. entry.node) way
 
 -- the state `here` is a kid of `s` under the Fork that the entry names; `left` more kids of it are
--- to
--- come, and then `rest`
+-- to come, and then `rest`
 pub record Entered {S B R : Type 0} (steps : Steps S B R) (own : S
     → Type 0) (nodes : List (Node B R))
     (entry : Entry) (s here : S) (to_come rest : List S) : Type 0 where
@@ -30,8 +29,7 @@ pub record Entered {S B R : Type 0} (steps : Steps S B R) (own : S
   pub is_rest : to_come ≡ kids_from steps s label (suc kid) left ++ rest
 
 -- the way leads from the root to the state at hand, the innermost Fork first, and these states are
--- to
--- come after it
+-- to come after it
 abbrev pub Stands : {S B R : Type 0} → Steps S B R → (S → Type 0) → List (Node B R) → S
     → List Entry → S → List S → Type 0
 Stands steps own nodes root [] here to_come = own root × (here ≡ root) × (to_come ≡ [])

@@ -22,7 +22,8 @@ left_of nodes [] = 0
 left_of nodes (e ∷ es) = (kids_in (slice_get nodes e.node) - e.next) + left_of nodes es
 
 module _ {S B R : Type 0} (steps : Steps S B R) (own : S → Type 0) where
-  length-left : (nodes : List (Node B R)) (root : S) (way : List Entry) (s : S) (to_come : List S) → Stands steps own nodes root way s to_come → length to_come ≡ left_of nodes way
+  length-left : (nodes : List (Node B R)) (root : S) (way : List Entry) (s : S) (to_come : List S)
+      → Stands steps own nodes root way s to_come → length to_come ≡ left_of nodes way
   length-left nodes root [] s to_come h = ap length h.2
   length-left nodes root (e ∷ es) s to_come h =
       let others = length-left nodes root es h.0 h.1 h.3 in
@@ -33,7 +34,8 @@ module _ {S B R : Type 0} (steps : Steps S B R) (own : S → Type 0) where
       omega (arith, others, kids, long, h.2.enough, h.2.next)
 
   -- an open node leaves one place fewer
-  pub fewer : (nodes : List (Node B R)) (root : S) (way next : List Entry) (s t : S) → IsAt steps own root nodes way s → IsAt steps own root (nodes ++ (Open ∷ [])) next t
+  pub fewer : (nodes : List (Node B R)) (root : S) (way next : List Entry) (s t : S)
+      → IsAt steps own root nodes way s → IsAt steps own root (nodes ++ (Open ∷ [])) next t
       → left_of (nodes ++ (Open ∷ [])) next < left_of nodes way
   fewer nodes root way next s t a b =
       let same : t ∷ b.to_come ≡ a.to_come = sym b.walk ∙ ahead-append steps (root ∷ []) nodes (Open ∷ []) ∙ ap (λ ss. after steps ss Open) a.walk in

@@ -16,7 +16,8 @@ use Rattle.tree_search.specs.Memory.{remembered}
 use Rattle.tree_search.specs.declared.pick.Pick.{Pick}
 
 -- an element behind a list
-pub slice_get-behind : {X : Type 0} (xs ys : List X) (i : ℕ) → slice_get (xs ++ ys) (length xs + i) ≡ slice_get ys i
+pub slice_get-behind : {X : Type 0} (xs ys : List X) (i : ℕ)
+    → slice_get (xs ++ ys) (length xs + i) ≡ slice_get ys i
 slice_get-behind [] ys i = let e : 0 + i ≡ i = omega arith in ap (slice_get ys) e
 slice_get-behind (x ∷ xs) ys i =
     let e : suc (length xs) + i ≡ suc (length xs + i) = omega arith in
@@ -33,10 +34,12 @@ opens-last zero = refl
 opens-last (suc n) = ap (λ xs. Open ∷ xs) (opens-last n)
 
 -- one more open node behind
-pub more_open : {B R : Type 0} (old new : List (Node B R)) (n : ℕ) → new ≡ old ++ opens n → new ++ (Open ∷ []) ≡ old ++ opens (suc n)
+pub more_open : {B R : Type 0} (old new : List (Node B R)) (n : ℕ) → new ≡ old ++ opens n
+    → new ++ (Open ∷ []) ≡ old ++ opens (suc n)
 more_open old new n e = ap (λ xs. xs ++ (Open ∷ [])) e ∙ append_assoc old (opens n) (Open ∷ []) ∙ ap (λ xs. old ++ xs) (opens-last n)
 
-pub count-append : {X : Type 0} (p : X → Bool) (xs ys : List X) → count_by p (xs ++ ys) ≡ count_by p xs + count_by p ys
+pub count-append : {X : Type 0} (p : X → Bool) (xs ys : List X)
+    → count_by p (xs ++ ys) ≡ count_by p xs + count_by p ys
 count-append p xs ys = sum_by-append (λ x. cond (p x) 1 0) xs ys
 
 count-opens : (B R : Type 0) (k : ℕ) → count_by is_pick (opens {B = B} {R = R} k) ≡ 0
@@ -47,18 +50,21 @@ count-opens B R (suc k) =
     omega (arith, e, count-opens B R k)
 
 -- they count for nothing
-pub count-opened : {B R : Type 0} (ns : List (Node B R)) (k : ℕ) → count_by is_pick (ns ++ opens k) ≡ count_by is_pick ns
+pub count-opened : {B R : Type 0} (ns : List (Node B R)) (k : ℕ)
+    → count_by is_pick (ns ++ opens k) ≡ count_by is_pick ns
 count-opened {B} {R} ns k = count-append is_pick ns (opens k) ∙ omega (arith, count-opens B R k)
 
 -- they change no memory
-pub remembered-opened : {B R P W : Type 0} (rule : List R → Pick B R P W → List R) (m : List R) (ns : List (Node B R)) (k : ℕ)
+pub remembered-opened : {B R P W : Type 0} (rule : List R → Pick B R P W → List R) (m : List R)
+    (ns : List (Node B R)) (k : ℕ)
     → remembered rule m (ns ++ opens k) ≡ remembered rule m ns
 remembered-opened rule m [] zero = refl
 remembered-opened rule m [] (suc k) = remembered-opened rule m [] k
 remembered-opened rule m (n ∷ ns) k = remembered-opened rule _ ns k
 
 module _ {S B R : Type 0} (steps : Steps S B R) where
-  each_open : (s : S) (ns : List (Node B R)) (P : List (Node B R) → S → Node B R → Type 0) → ((before : List (Node B R)) (t : S) → P before t Open)
+  each_open : (s : S) (ns : List (Node B R)) (P : List (Node B R) → S → Node B R → Type 0)
+      → ((before : List (Node B R)) (t : S) → P before t Open)
       → EachPlace steps s ns P → EachPlace steps s (ns ++ (Open ∷ [])) P
   each_open s ns P here h i u m get state = elim (cases_lt i (length ns)) [ inl below ↦ early below | inr above ↦ late above ]
     where
@@ -77,7 +83,9 @@ module _ {S B R : Type 0} (steps : Steps S B R) where
           rw (← same) (here (take i (ns ++ (Open ∷ []))) u)
 
   -- what holds at each place, and of every open node, holds at each place with open nodes behind
-  pub each_opens : (k : ℕ) (s : S) (ns : List (Node B R)) (P : List (Node B R) → S → Node B R → Type 0) → ((before : List (Node B R)) (t : S) → P before t Open)
+  pub each_opens : (k : ℕ) (s : S) (ns : List (Node B R))
+      (P : List (Node B R) → S → Node B R → Type 0)
+      → ((before : List (Node B R)) (t : S) → P before t Open)
       → EachPlace steps s ns P → EachPlace steps s (ns ++ opens k) P
   each_opens zero s ns P here h = rw (append-nil ns) h
   each_opens (suc k) s ns P here h = rw (← append_assoc ns (Open ∷ []) (opens k)) (each_opens k s (ns ++ (Open ∷ [])) P here (each_open s ns P here h))

@@ -17,7 +17,8 @@ AllPicked {B} {R} ns = (i : ℕ) (n : Node B R) → slice_get ns i ≡ Some n �
 pub picked_nil : {B R : Type 0} → AllPicked {B = B} {R = R} []
 picked_nil i n e = absurd (cc)
 
-pub picked_snoc : {B R : Type 0} (ns : List (Node B R)) (m : Node B R) → AllPicked ns → is_pick m ≡ true → AllPicked (ns ++ (m ∷ []))
+pub picked_snoc : {B R : Type 0} (ns : List (Node B R)) (m : Node B R) → AllPicked ns
+    → is_pick m ≡ true → AllPicked (ns ++ (m ∷ []))
 picked_snoc ns m h p i n e = elim (cases_lt i (length ns)) [
   | inl below ↦ h i n (sym (slice_get-front ns (m ∷ []) i below) ∙ e)
   | inr above ↦ late above
@@ -31,11 +32,13 @@ picked_snoc ns m h p i n e = elim (cases_lt i (length ns)) [
         let mn : m ≡ n = cc in
         rw (← mn) p
 
-pub count-snoc : {B R : Type 0} (ns : List (Node B R)) (n : Node B R) → is_pick n ≡ true → count_by is_pick (ns ++ (n ∷ [])) ≡ count_by is_pick ns + 1
+pub count-snoc : {B R : Type 0} (ns : List (Node B R)) (n : Node B R) → is_pick n ≡ true
+    → count_by is_pick (ns ++ (n ∷ [])) ≡ count_by is_pick ns + 1
 count-snoc ns n p = count-append is_pick ns (n ∷ []) ∙ rw p (omega arith)
 
 -- with open nodes behind the list is gapless
-pub gapless : {B R : Type 0} (old : List (Node B R)) (k : ℕ) → AllPicked old → IsGapless (old ++ opens k)
+pub gapless : {B R : Type 0} (old : List (Node B R)) (k : ℕ) → AllPicked old
+    → IsGapless (old ++ opens k)
 gapless old k all i j n below get_i get_j = elim (cases_lt i (length old)) [ inl early ↦ bad early | inr late ↦ good late ]
   where
     bad : i < length old → is_pick n ≡ false
@@ -48,6 +51,7 @@ gapless old k all i j n below get_i get_j = elim (cases_lt i (length old)) [ inl
         rw o refl
 
 -- and the first open node is the one behind them
-pub first_open : {B R : Type 0} (old : List (Node B R)) (k : ℕ) → AllPicked old → IsFirstOpen (old ++ opens (suc k)) (length old)
+pub first_open : {B R : Type 0} (old : List (Node B R)) (k : ℕ) → AllPicked old
+    → IsFirstOpen (old ++ opens (suc k)) (length old)
 first_open old k all =
     (ap (slice_get (old ++ opens (suc k))) (omega arith) ∙ slice_get-behind old (opens (suc k)) 0, λ j n below get. all j n (sym (slice_get-front old (opens (suc k)) j below) ∙ get))

@@ -25,7 +25,8 @@ use Rattle.tree_search.proofs.Opens.{each_opens, count-opened, remembered-opened
 use Rattle.tree_search.proofs.Picks.{AllPicked, picked_nil, picked_snoc, count-snoc, gapless, first_open}
 
 -- the habits that are kept twice are kept
-pub keeps_keeps : {S B R P W : Type 0} (old mid new : Habits S B R P W) → KeepsHabits old mid → KeepsHabits mid new → KeepsHabits old new
+pub keeps_keeps : {S B R P W : Type 0} (old mid new : Habits S B R P W) → KeepsHabits old mid
+    → KeepsHabits mid new → KeepsHabits old new
 keeps_keeps old mid new a b = record {
   rule = b.rule ∙ a.rule;
   relation = λ m s p. (λ h. (a.relation m s p).0 ((b.relation m s p).0 h), λ h. (b.relation m s p).1 ((a.relation m s p).1 h));
@@ -41,12 +42,15 @@ keeps_same habits = record {
   excuses = λ s w. (λ h. h, λ h. h);
 }
 
-remembered-snoc : {B R P W : Type 0} (rule : List R → Pick B R P W → List R) (m : List R) (ns : List (Node B R)) (n : Node B R) → remembered rule m (ns ++ (n ∷ [])) ≡ after_node rule (remembered rule m ns) n
+remembered-snoc : {B R P W : Type 0} (rule : List R → Pick B R P W → List R) (m : List R)
+    (ns : List (Node B R)) (n : Node B R)
+    → remembered rule m (ns ++ (n ∷ [])) ≡ after_node rule (remembered rule m ns) n
 remembered-snoc rule m [] n = refl
 remembered-snoc rule m (k ∷ ns) n = remembered-snoc rule (after_node rule m k) ns n
 
 module _ {S B R P W : Type 0} (steps : Steps S B R) (habits : Habits S B R P W) (root : S) (memory : List R) where
-  -- the nodes are Close and Fork nodes that hold at their places, as many as were picked, and they follow the habits
+  -- the nodes are Close and Fork nodes that hold at their places, as many as were picked, and they
+  -- follow the habits
   pub record Picked (nodes : List (Node B R)) (later : List R) (picked : ℕ) : Type 0 where
     pub holds : EachPlace steps root nodes (λ _ s node. NodeHolds false steps s node)
     pub follows : Follows habits steps root memory later nodes
@@ -62,14 +66,17 @@ module _ {S B R P W : Type 0} (steps : Steps S B R) (habits : Habits S B R P W) 
   }
 
   -- what was picked under later habits meets the first relation
-  related_here : (now : Habits S B R P W) (m m' : List R) (ns : List (Node B R)) (s : S) (n : Node B R) → KeepsHabits habits now → m ≡ remembered habits.rule memory ns
+  related_here : (now : Habits S B R P W) (m m' : List R) (ns : List (Node B R)) (s : S)
+      (n : Node B R) → KeepsHabits habits now → m ≡ remembered habits.rule memory ns
       → IsPicked steps now m m' s n → IsRelated habits memory ns s n
   related_here now m m' ns s (Close r) keeps e p = subst (λ mm. habits.relation mm s (picks.Close r)) e ((keeps.relation m s (picks.Close r)).0 p.related)
   related_here now m m' ns s (Fork l k) keeps e p = subst (λ mm. habits.relation mm s (picks.Fork l)) e ((keeps.relation m s (picks.Fork l)).0 p.related)
   related_here now m m' ns s Open keeps e p = tt
 
-  snoc : (own : S → Type 0) (now : Habits S B R P W) (nodes : List (Node B R)) (way : List Entry) (here : S) (node : Node B R) (m m' : List R) (picked : ℕ) → Picked nodes m picked
-      → IsAt steps own root nodes way here → KeepsHabits habits now → IsPicked steps now m m' here node → Picked (nodes ++ (node ∷ [])) m' (picked + 1)
+  snoc : (own : S → Type 0) (now : Habits S B R P W) (nodes : List (Node B R)) (way : List Entry)
+      (here : S) (node : Node B R) (m m' : List R) (picked : ℕ) → Picked nodes m picked
+      → IsAt steps own root nodes way here → KeepsHabits habits now
+      → IsPicked steps now m m' here node → Picked (nodes ++ (node ∷ [])) m' (picked + 1)
   snoc own now nodes way here node m m' picked h at keeps p =
       let state : slice_get (ahead steps (root ∷ []) nodes) 0 ≡ Some here = ap (λ (xs : List S). slice_get xs 0) at.walk in
       record {
@@ -83,17 +90,22 @@ module _ {S B R P W : Type 0} (steps : Steps S B R) (habits : Habits S B R P W) 
       }
 
   -- one more pick
-  pub picked_more : (own : S → Type 0) (now : Habits S B R P W) (nodes new : List (Node B R)) (way : List Entry) (here : S) (node : Node B R) (m m' : List R) (picked : ℕ) → new ≡ nodes ++ (node ∷ [])
-      → Picked nodes m picked → IsAt steps own root nodes way here → KeepsHabits habits now → IsPicked steps now m m' here node → Picked new m' (picked + 1)
+  pub picked_more : (own : S → Type 0) (now : Habits S B R P W) (nodes new : List (Node B R))
+      (way : List Entry) (here : S) (node : Node B R) (m m' : List R) (picked : ℕ)
+      → new ≡ nodes ++ (node ∷ [])
+      → Picked nodes m picked → IsAt steps own root nodes way here → KeepsHabits habits now
+      → IsPicked steps now m m' here node → Picked new m' (picked + 1)
   picked_more own now nodes new way here node m m' picked e h at keeps p =
       subst (λ ns. Picked ns m' (picked + 1)) (sym e) (snoc own now nodes way here node m m' picked h at keeps p)
 
   -- the memory after a Halt goes by the first rule
-  pub halt_memory : (now : Habits S B R P W) (m m' : List R) (why : W) → KeepsHabits habits now → m' ≡ now.rule m (picks.Halt why) → m' ≡ habits.rule m (picks.Halt why)
+  pub halt_memory : (now : Habits S B R P W) (m m' : List R) (why : W) → KeepsHabits habits now
+      → m' ≡ now.rule m (picks.Halt why) → m' ≡ habits.rule m (picks.Halt why)
   halt_memory now m m' why keeps e = e ∙ ap (λ rule. rule m (picks.Halt why)) keeps.rule
 
   -- picked nodes that list a tree check
-  pub picked_checks : (nodes : List (Node B R)) (m : List R) (picked : ℕ) → Picked nodes m picked → IsTree nodes → Checks steps root (tree_of nodes)
+  pub picked_checks : (nodes : List (Node B R)) (m : List R) (picked : ℕ) → Picked nodes m picked
+      → IsTree nodes → Checks steps root (tree_of nodes)
   picked_checks nodes m picked h tree = checks_from_each steps false root nodes tree h.holds
 
   module _ (old new : List (Node B R)) (m : List R) (picked : ℕ) (h : Picked old m picked) (o : AddsOpen old new) where
@@ -120,8 +132,10 @@ module _ {S B R P W : Type 0} (steps : Steps S B R) (habits : Habits S B R P W) 
     }
 
     -- and what was said at the place behind them was said at the first open leaf
-    pub opened_halted : (own : S → Type 0) (now : Habits S B R P W) (way : List Entry) (here : S) (why : W) → IsAt steps own root old way here → KeepsHabits habits now
-        → now.excuses here why → now.relation m here (picks.Halt why) → IsHalted steps own habits root memory new why
+    pub opened_halted : (own : S → Type 0) (now : Habits S B R P W) (way : List Entry) (here : S)
+        (why : W) → IsAt steps own root old way here → KeepsHabits habits now
+        → now.excuses here why → now.relation m here (picks.Halt why)
+        → IsHalted steps own habits root memory new why
     opened_halted own now way here why at keeps excused related =
         let front : take (length old) new ≡ old = ap (take (length old)) o.1 ∙ take-append_seam old (opens (suc o.0)) in
         record {

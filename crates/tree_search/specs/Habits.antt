@@ -5,8 +5,8 @@ use Rattle.tree_search.specs.declared.pick.Pick.{Pick}
 use Rattle.tree_search.specs.declared.pick.Pick.TheVariants.{Close, Fork, Found, Halt}
 
 -- the rule by which a pick changes the memory, and three relations: of the memory before a pick,
--- the
--- state and the pick; of a complete state and a proof of it; of a state and what a Halt says there
+-- the state and the pick; of a complete state and a proof of it; of a state and what a Halt says
+-- there
 pub record Habits (S B R P W : Type 0) : Type 1 where
   pub rule : List R → Pick B R P W → List R
   pub relation : List R → S → Pick B R P W → Type 0
@@ -18,9 +18,8 @@ abbrev pub IsSolved : {S : Type 0} → (S → Type 0) → (S → List ℕ → Ty
     → Type 0
 IsSolved complete solution value s = complete s × solution s (value s)
 
--- a pick fits its state: the reason closes it, the label is allowed, it is solved and proved, or
--- it is
--- excused
+-- a pick fits its state: the reason closes it, the label is allowed, it is solved and proved, or it
+-- is excused
 abbrev pub Fits : {S B R P W : Type 0} → Steps S B R → (S → Type 0) → Habits S B R P W → S
     → Pick B R P W → Type 0
 Fits steps solved habits s (Close r) = steps.closes s r ≡ true

@@ -9,8 +9,7 @@ use Rattle.tree_search.specs.declared.pick.Pick.TheVariants as picks
 use Rattle.tree_search.specs.Habits.{Habits}
 
 -- the memory after a node: a Close or Fork node counts as its pick, and an Open one leaves the
--- memory
--- as it is
+-- memory as it is
 abbrev pub after_node : {B R P W : Type 0} → (List R → Pick B R P W → List R)
     → List R → Node B R → List R
 after_node rule m (Close r) = rule m (picks.Close r)
@@ -27,8 +26,10 @@ remembered rule m (n ∷ ns) = remembered rule (after_node rule m n) ns
 -- node is
 abbrev pub IsRelated : {S B R P W : Type 0} → Habits S B R P W → List R → List (Node B R) → S
     → Node B R → Type 0
-IsRelated habits m before s (Close r) = habits.relation (remembered habits.rule m before) s (picks.Close r)
-IsRelated habits m before s (Fork l n) = habits.relation (remembered habits.rule m before) s (picks.Fork l)
+IsRelated habits m before s (Close r) =
+    habits.relation (remembered habits.rule m before) s (picks.Close r)
+IsRelated habits m before s (Fork l n) =
+    habits.relation (remembered habits.rule m before) s (picks.Fork l)
 IsRelated habits m before s Open = Unit {0}
 
 -- the nodes follow the habits from one memory to another: the relation holds at each place, and the

@@ -9,8 +9,7 @@ use Rattle.tree_search.specs.Habits.{Habits}
 use Rattle.tree_search.specs.Memory.{after_node, IsRelated}
 
 -- the node was picked at the state: it is a Close or a Fork, it holds there, the relation holds,
--- and
--- the memory goes by the rule
+-- and the memory goes by the rule
 pub record IsPicked {S B R P W : Type 0} (steps : Steps S B R) (habits : Habits S B R P W)
     (before later : List R) (s : S) (node : Node B R) : Type 0 where
   pub is_picked : is_pick node ≡ true

@@ -30,9 +30,8 @@ pub trait Chooser<S: Space> {
         requires { S.is_own space.now state.now }
 
         // A Close's reason closes the state, a Fork's label is allowed there, Found comes only
-        // where
-        // the state is complete and its value a solution, with a proof of it, and Halt says what
-        // the chooser's relation allows at the state.
+        // where the state is complete and its value a solution, with a proof of it, and Halt says
+        // what the chooser's relation allows at the state.
         ensures fits { let s = space.now in
             let solved = IsSolved (S.is_complete s) (S.is_solution s) (S.value s) in
             IfOk result (Fits (S.steps s) solved (habits self.old s) state.now) }

@@ -8,7 +8,9 @@ invariant-loop-wanted g l =
     let label = g.B.Spelt.read_at in
     let reason = g.R.Spelt.read_at in
     record {
-      left : (fuel : ℕ) × (length l.rest ≤ fuel) × (with_front l.nodes.items (nodes_at (node_at label reason) fuel l.wanted l.rest) ≡ tree_at label reason l.bytes);
+      left : (fuel : ℕ) × (length l.rest ≤ fuel)
+          × (with_front l.nodes.items (nodes_at (node_at label reason) fuel l.wanted l.rest)
+          ≡ tree_at label reason l.bytes);
       bound : l.wanted ≤ 1 + 65535 * length l.nodes.items;
     }
 

@@ -9,7 +9,8 @@ use Rattle.cert_fields.proofs.part_list.take_contests.Goals as goal
 use Rattle.cert_fields.proofs.part_list.take_contests.Goals.{In-Ok}
 use Rattle.std.proofs.Common.{Some, None, length}
 
-read : (c : In-Ok) → part_at (length c.args.shape.now) c.args.bytes.now ≡ Some (c.in-Ok.contests.items, c.in-Ok.rest.now)
+read : (c : In-Ok) → part_at (length c.args.shape.now) c.args.bytes.now
+    ≡ Some (c.in-Ok.contests.items, c.in-Ok.rest.now)
 read c = subst (λ (n : ℕ). part_at n c.args.bytes.now ≡ Some (c.in-Ok.contests.items, c.in-Ok.rest.now)) c.contests.ensures.count c.in-Ok.ensures
 
 pub overflow_sub-result : goal.overflow_sub-result

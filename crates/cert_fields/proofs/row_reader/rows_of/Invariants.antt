@@ -9,5 +9,7 @@ abbrev pub invariant-loop-j : goal.invariant-loop-j
 invariant-loop-j l = record {
   targets : l.deck.targets ≡ target_count l.shape;
   count : length l.deck.ballots ≡ l.k;
-  left : with_front (take l.j l.deck.ballots) (many_at (row_at (target_count l.shape)) (l.k - l.j) l.rest) ≡ rows_at (target_count l.shape) l.k l.bytes;
+  left : with_front (take l.j l.deck.ballots)
+      (many_at (row_at (target_count l.shape)) (l.k - l.j) l.rest)
+      ≡ rows_at (target_count l.shape) l.k l.bytes;
 }

@@ -8,7 +8,8 @@ use Rattle.cert_fields.proofs.Marks.{deck_at, deck_exact, deck_read, deck_fault}
 use Rattle.cert_fields.proofs.row_reader.take_rows.Goals as goal
 use Rattle.cert_fields.proofs.row_reader.take_rows.Goals.{In-Ok}
 
-read : (c : In-Ok) → deck_at (target_count c.args.shape.now) c.args.k c.args.bytes.now ≡ Some (c.in-Ok.deck, c.in-Ok.rest.now)
+read : (c : In-Ok) → deck_at (target_count c.args.shape.now) c.args.k c.args.bytes.now
+    ≡ Some (c.in-Ok.deck, c.in-Ok.rest.now)
 read c = deck_read (target_count c.args.shape.now) c.args.k c.args.bytes.now c.in-Ok.deck c.in-Ok.rest.now c.in-Ok.ensures.read c.in-Ok.ensures.targets
 
 pub overflow_sub-result : goal.overflow_sub-result

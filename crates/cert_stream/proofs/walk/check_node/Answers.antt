@@ -10,5 +10,6 @@ returns-in-On-clause-on g c walk e =
     subst (λ (w : Walk g.row.S.Denot g.row.S-State.Denot g.row.S-Label.Denot g.row.S-Reason.Denot). IfOk c.walk_on.result (λ after.
     (root : g.row.S-State.Denot) (nodes : List (Node g.row.S-Label.Denot g.row.S-Reason.Denot)) (wanted : ℕ)
     → IsOpenWalk (g.S.Space.steps w.space) (g.S.Space.is_own w.space) w root nodes wanted
-    → Follows (g.S.Space.steps w.space) (g.S.Space.is_own w.space) w.space root c.args.part (nodes ++ c.args.node ∷ []) after))
+    → Follows (g.S.Space.steps w.space) (g.S.Space.is_own w.space) w.space root c.args.part
+    (nodes ++ c.args.node ∷ []) after))
     same c.walk_on.ensures

@@ -5,6 +5,7 @@ use Rattle.close_rules.proofs.pigeon.count_alike.Given as goal
 
 abbrev pub invariant-loop-d : goal.invariant-loop-d
 invariant-loop-d l = record {
-  count : l.alike ≡ count_by (has_shape_of (contest_at l.state.contests l.c)) (take l.d l.state.contests);
+  count : l.alike ≡ count_by (has_shape_of (contest_at l.state.contests l.c))
+      (take l.d l.state.contests);
   small : l.alike ≤ l.d;
 }

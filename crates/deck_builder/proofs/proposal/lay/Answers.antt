@@ -20,7 +20,8 @@ loop-j-preserved c =
     let before = replicate c.args.k (replicate (target_count c.args.shape.now) false) in
     ballots_more whole c.loop-j.deck c.set_ballot.new.deck before c.loop-j.j (omega (arith, c.loop-j-test.true, long c.args.shape.now c.args.rules.now c.args.k c.args.turn c.requires.fits)) (omega (arith, long c.args.shape.now c.args.rules.now c.args.k c.args.turn c.requires.fits, blank_long c.args.shape.now c.args.k)) c.loop-j.invariant c.set_ballot.ensures
 
-laid : (c : goal.After-drop-runs-2) → c.loop-j.deck ≡ pattern_deck (pattern c.args.shape.now c.args.rules.now c.args.k c.args.turn)
+laid : (c : goal.After-drop-runs-2)
+    → c.loop-j.deck ≡ pattern_deck (pattern c.args.shape.now c.args.rules.now c.args.k c.args.turn)
 laid c =
     let whole = pattern_deck (pattern c.args.shape.now c.args.rules.now c.args.k c.args.turn) in
     let before = replicate c.args.k (replicate (target_count c.args.shape.now) false) in

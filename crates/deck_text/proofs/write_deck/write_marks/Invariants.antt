@@ -9,5 +9,7 @@ use Rattle.deck_text.proofs.write_deck.write_marks.Given as goal
 abbrev pub invariant-loop-contest : goal.invariant-loop-contest
 invariant-loop-contest l = record {
   place : l.first ≡ length (target_names (take l.contest-index l.names.contests));
-  text : l.table ≡ l.fn.table ++ flat_map (mark_line (target_names l.names.contests) l.number (ballot_at l.deck l.j)) (range_with_len 0 l.first);
+  text : l.table ≡ l.fn.table ++ flat_map
+      (mark_line (target_names l.names.contests) l.number (ballot_at l.deck l.j))
+      (range_with_len 0 l.first);
 }

@@ -8,5 +8,6 @@ use Rattle.election_json.proofs.contests.contest_entries.Given as goal
 abbrev pub invariant-loop-i : goal.invariant-loop-i
 invariant-loop-i l = record {
   known : l.ids ≡ ids_of l.entries.items;
-  rest : each_from next_contest l.i l.entries.items (map view (drop l.i l.values)) ≡ each_from next_contest 0 [] (map view l.values);
+  rest : each_from next_contest l.i l.entries.items (map view (drop l.i l.values))
+      ≡ each_from next_contest 0 [] (map view l.values);
 }

@@ -8,5 +8,6 @@ use Rattle.election_json.proofs.contests.targets_of.Given as goal
 abbrev pub invariant-loop-j : goal.invariant-loop-j
 invariant-loop-j l = record {
   known : l.earlier ≡ l.ids;
-  rest : each_from (target_entry l.i) l.j l.ids (map view (drop l.j l.values)) ≡ each_from (target_entry l.i) 0 [] (map view l.values);
+  rest : each_from (target_entry l.i) l.j l.ids (map view (drop l.j l.values))
+      ≡ each_from (target_entry l.i) 0 [] (map view l.values);
 }

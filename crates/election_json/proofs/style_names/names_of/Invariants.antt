@@ -7,5 +7,6 @@ use Rattle.election_json.proofs.style_names.names_of.Given as goal
 abbrev pub invariant-loop-number : goal.invariant-loop-number
 invariant-loop-number l = record {
   style : l.names.style ≡ l.style.id;
-  contests : l.names.contests ≡ map contest_names (map (entry_at l.contests) (take l.number-index l.style.contests.items));
+  contests : l.names.contests ≡ map contest_names
+      (map (entry_at l.contests) (take l.number-index l.style.contests.items));
 }

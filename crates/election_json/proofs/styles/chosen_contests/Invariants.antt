@@ -10,7 +10,9 @@ use Rattle.election_json.proofs.styles.chosen_contests.Given as goal
 abbrev pub invariant-loop-j : goal.invariant-loop-j
 invariant-loop-j l = record {
   known : l.earlier ≡ ids_of (map (entry_at l.contests) l.chosen.items);
-  rest : each_from (next_chosen l.contests l.i) l.j (map (entry_at l.contests) l.chosen.items) (map view (drop l.j l.values)) ≡ each_from (next_chosen l.contests l.i) 0 [] (map view l.values);
+  rest : each_from (next_chosen l.contests l.i) l.j (map (entry_at l.contests) l.chosen.items)
+      (map view (drop l.j l.values))
+      ≡ each_from (next_chosen l.contests l.i) 0 [] (map view l.values);
   within : AreWithin l.contests l.chosen.items;
   count : length l.chosen.items ≡ l.j;
 }

@@ -7,6 +7,7 @@ use Rattle.election_json.proofs.styles.count_targets.Given as goal
 -- the sum so far is of the contests so far, each of which has at most 64 targets
 abbrev pub invariant-loop-number : goal.invariant-loop-number
 invariant-loop-number l = record {
-  sum : l.sum ≡ target_count (map contest_shape (map (entry_at l.contests) (take l.number-index l.chosen)));
+  sum : l.sum
+      ≡ target_count (map contest_shape (map (entry_at l.contests) (take l.number-index l.chosen)));
   few : l.sum ≤ 64 * l.number-index;
 }

@@ -9,6 +9,7 @@ use Rattle.election_json.proofs.styles.style_entries.Given as goal
 abbrev pub invariant-loop-i : goal.invariant-loop-i
 invariant-loop-i l = record {
   known : l.ids ≡ style_ids (kept_styles l.contests l.styles.items);
-  rest : each_from (next_style l.contests) l.i (kept_styles l.contests l.styles.items) (map view (drop l.i l.values)) ≡ each_from (next_style l.contests) 0 [] (map view l.values);
+  rest : each_from (next_style l.contests) l.i (kept_styles l.contests l.styles.items)
+      (map view (drop l.i l.values)) ≡ each_from (next_style l.contests) 0 [] (map view l.values);
   within : All (IsWithin l.contests) l.styles.items;
 }

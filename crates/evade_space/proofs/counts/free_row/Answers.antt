@@ -4,7 +4,9 @@ use Rattle.evade_space.proofs.KeptLost.{Moves}
 use Rattle.evade_space.proofs.MovedMarks.{row_falls, free_rises, row_some, free_few, lost_then}
 use Rattle.evade_space.proofs.counts.free_row.Goals as goal
 
-moved : (c : goal.After-lost_of-after) → Moves c.args.space.now c.args.sources.now c.args.u c.args.t c.lost_of-after.result c.lost_of-before.result
+moved : (c : goal.After-lost_of-after)
+    → Moves c.args.space.now c.args.sources.now c.args.u c.args.t c.lost_of-after.result
+    c.lost_of-before.result
 moved c =
     lost_then c.args.space.now c.args.sources.now c.args.u c.args.t c.requires.giving c.limit_of-limit.result c.lost_of-after.result c.lost_of-before.result c.as_slice-2.result.now c.as_slice.result.now c.ballots-ballots.ensures.sought
     (c.limit_of-limit.ensures ∙ (λ i. (contest_at c.args.space.now.contests (c.contest_of.ensures.value i)).limit))

@@ -6,6 +6,7 @@ use Rattle.lat_tabulate.proofs.read.mark_count.Given as goal
 
 abbrev pub invariant-loop-t : goal.invariant-loop-t
 invariant-loop-t l = record {
-  count : l.count ≡ count_by (λ mark. mark) (slice_range (reading (ballot_at l.deck l.j) l.sources) l.first l.t);
+  count : l.count ≡ count_by (λ mark. mark)
+      (slice_range (reading (ballot_at l.deck l.j) l.sources) l.first l.t);
   small : l.count ≤ l.t;
 }

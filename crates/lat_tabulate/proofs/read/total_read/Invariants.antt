@@ -4,6 +4,7 @@ use Rattle.lat_tabulate.proofs.read.total_read.Given as goal
 
 abbrev pub invariant-loop-j : goal.invariant-loop-j
 invariant-loop-j l = record {
-  count : l.votes ≡ count_by (λ ballot. votes_for l.shape (reading ballot l.sources) l.u) (take l.j l.deck.ballots);
+  count : l.votes ≡ count_by (λ ballot. votes_for l.shape (reading ballot l.sources) l.u)
+      (take l.j l.deck.ballots);
   small : l.votes ≤ l.j;
 }

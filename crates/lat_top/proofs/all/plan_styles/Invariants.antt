@@ -8,7 +8,8 @@ invariant-loop-i g l =
     let files_of = g.H.Shelf.files in
     let faults_of = g.H.Shelf.faults in
     record {
-      holds : HoldsFirst (kept_all l.asked) l.definition l.i l.county (files_of l.fn.shelf) (files_of l.shelf);
+      holds : HoldsFirst (kept_all l.asked) l.definition l.i l.county (files_of l.fn.shelf)
+          (files_of l.shelf);
       counted : l.county.counts.styles ≡ l.i;
       faults : faults_of l.fn.shelf ≤ faults_of l.shelf;
     }

@@ -8,7 +8,8 @@ use Rattle.lat_top.proofs.judging.judgement.Goals as goal
 
 is_judgement : (inputs : JudgeInputs) (judged : Judged)
     → ((judged ≡ Pass) ↔ Passes inputs.cert inputs.reported)
-    → ((t e r : ℕ) → (judged ≡ Differs t e r) ↔ IsFirstDifference (expected inputs.cert) inputs.reported t e r)
+    → ((t e r : ℕ) → (judged ≡ Differs t e r)
+    ↔ IsFirstDifference (expected inputs.cert) inputs.reported t e r)
     → IsJudgement inputs judged
 is_judgement inputs Pass pass differs = pass.0 refl
 is_judgement inputs (Differs t e r) pass differs = (differs t e r).0 refl

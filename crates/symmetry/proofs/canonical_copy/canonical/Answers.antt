@@ -7,7 +7,8 @@ use Rattle.symmetry.proofs.Moved.{ordered_long, ordered_within}
 use Rattle.symmetry.proofs.Finished.{IsCopy, finished}
 use Rattle.symmetry.proofs.canonical_copy.canonical.Goals as goal
 
-is_of_shape : (c : goal.After-as_slice) → (length c.as_slice.result.now ≡ c.args.deck.targets) × IsDeck c.args.deck
+is_of_shape : (c : goal.After-as_slice)
+    → (length c.as_slice.result.now ≡ c.args.deck.targets) × IsDeck c.args.deck
 is_of_shape c = (
   ap length c.as_slice.ensures.value ∙ (ordered_long c.args.shape.now c.args.deck.ballots c.in_ok-sources.sources.items c.in_ok-sources.ensures ∙ sym c.requires),
   subst IsDeck c.deck.view_is (is_deck c.deck.inside.targets c.deck.inside.rows.items c.deck.invariant),
@@ -21,7 +22,8 @@ read-requires-clause-within c =
     subst (λ (n : ℕ). All (λ t. t < n) c.as_slice.result.now) (sym c.requires)
     (subst (λ (s : List ℕ). All (λ t. t < target_count c.args.shape.now) s) (sym c.as_slice.ensures.value) (ordered_within c.args.shape.now c.args.deck.ballots c.in_ok-sources.sources.items c.in_ok-sources.ensures))
 
-copied : (c : goal.After-drop-deck-inside-2) → IsCopy c.args.shape.now c.args.deck.ballots c.sort_rows.new.self.ballots
+copied : (c : goal.After-drop-deck-inside-2)
+    → IsCopy c.args.shape.now c.args.deck.ballots c.sort_rows.new.self.ballots
 copied c =
     finished c.args.shape.now c.args.deck c.in_ok-copy.copy c.sort_rows.new.self c.as_slice.result.now
     (subst IsDeck c.deck.view_is (is_deck c.deck.inside.targets c.deck.inside.rows.items c.deck.invariant)) c.requires

@@ -8,7 +8,8 @@ invariant-loop-i l = record {
   within : IsSet l.i l.within (is_within l.space.contests l.state.sources l.c) l.space.deck;
   room : IsSet l.i l.room (has_room l.space.contests l.state.sources l.c) l.space.deck;
   sure : IsSet l.i l.sure (is_sure l.space.contests l.state.sources l.c l.places) l.space.deck;
-  sure_with : IsSet l.i l.sure_with (is_sure_with l.space.contests l.state.sources l.c l.places) l.space.deck;
+  sure_with : IsSet l.i l.sure_with (is_sure_with l.space.contests l.state.sources l.c l.places)
+      l.space.deck;
   long : length l.within ≡ 16;
   long_room : length l.room ≡ 16;
   long_sure : length l.sure ≡ 16;

@@ -8,6 +8,8 @@ invariant-loop-u l = record {
   marks : HasMarks l.space l.self;
   rest : KeepsRest l.initial.self l.self;
   here : (w : ℕ) → first_target l.space.contests l.c ≤ w → w < l.u → HasVotes l.space l.self w;
-  may : (w : ℕ) → (w < first_target l.space.contests l.c) ⊎ (l.u ≤ w) → get_or l.self.counts.may w 0 ≡ get_or l.initial.self.counts.may w 0;
-  must : (w : ℕ) → (w < first_target l.space.contests l.c) ⊎ (l.u ≤ w) → get_or l.self.counts.must w 0 ≡ get_or l.initial.self.counts.must w 0;
+  may : (w : ℕ) → (w < first_target l.space.contests l.c) ⊎ (l.u ≤ w)
+      → get_or l.self.counts.may w 0 ≡ get_or l.initial.self.counts.may w 0;
+  must : (w : ℕ) → (w < first_target l.space.contests l.c) ⊎ (l.u ≤ w)
+      → get_or l.self.counts.must w 0 ≡ get_or l.initial.self.counts.must w 0;
 }
