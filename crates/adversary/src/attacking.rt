@@ -1,5 +1,8 @@
-ghost use Rattle.std.specs.Prelude.{◌≡◌, ◌≤◌, ◌*◌, IfOk};
+ghost use Rattle.std.specs.Prelude.{◌≡◌, ◌≤◌, ◌*◌, length, IfOk};
 ghost use Rattle.lat_base.specs.Shape.{target_count};
+ghost use Rattle.lat_base.specs.Tally.{report};
+ghost use Rattle.lat_base.specs.Misassignment.{identity};
+ghost use Rattle.evade_space.specs.Sought.{own_sought};
 ghost use Rattle.evade_space.specs.Trees.{factorial};
 ghost use Rattle.adversary.specs.Attack.{IsAttack, IsEnded};
 
@@ -10,6 +13,7 @@ use evade_space::{Evade, Skipped};
 use lat_ballots::Deck;
 use lat_base::Shape;
 use lat_misassign::Misassignment;
+use lat_tabulate::report;
 use std::alloc::{AllocError, Global};
 use tree_core::Tree;
 use tree_search::{Outcome, search};
@@ -23,6 +27,33 @@ pub enum Attacked {
     Robust(Tree<u16, Skipped>),
     /// An open tree of as many Close and Fork nodes as the budget.
     Spent(Tree<u16, Skipped>),
+}
+
+// A deck's own totals, one for each target.
+#[tactic(auto, using(lat_misassign::proofs::Identity::identity_long, readings::proofs::Reports::report_long))]
+fn own_totals(alloc: Global, shape: &Shape, deck: &Deck) -> Result<Vec<u32>, AllocError>
+    requires { deck.now.targets ≡ target_count shape.now }
+    ensures own { IfOk result (λ totals. totals.items
+        ≡ report shape.now deck.now.ballots (identity (target_count shape.now))) }
+    ensures long { IfOk result (λ totals. length totals.items ≡ target_count shape.now) }
+{
+    let identity = Misassignment::identity(alloc, shape.targets())?;
+    let totals = report(alloc, shape, deck, &identity)?;
+    Ok(totals)
+}
+
+// The space of the misassignments that leave a deck's own totals as they are.
+#[tactic(auto, using(lat_misassign::proofs::Identity::identity_long))]
+fn own_space(alloc: Global, shape: &Shape, deck: &Deck, totals: &[u32]) -> Result<Evade, AllocError>
+    requires deck { deck.now.targets ≡ target_count shape.now }
+    requires long { length totals.now ≡ target_count shape.now }
+    requires own { totals.now
+        ≡ report shape.now deck.now.ballots (identity (target_count shape.now)) }
+    ensures { IfOk result (λ space. space ≡ own_sought shape.now deck.now.ballots) }
+{
+    let identity = Misassignment::identity(alloc, shape.targets())?;
+    let space = Evade::new(alloc, shape, deck, totals, &identity)?;
+    Ok(space)
 }
 
 /// Searches for a misassignment, not the identity, that leaves every total of a deck as it is:
@@ -42,10 +73,11 @@ pub fn attack(
     // An ample budget isn't spent.
     ensures ample { 3 * factorial (target_count shape.now) ≤ budget → IfOk result IsEnded }
 {
-    if let Some(s) = find_exchange(alloc, shape, deck)? {
+    let totals = own_totals(alloc, shape, deck)?;
+    if let Some(s) = find_exchange(alloc, shape, deck, totals.as_slice())? {
         return Ok(Attacked::Evaded(s));
     }
-    let space = Evade::own(alloc, shape, deck)?;
+    let space = own_space(alloc, shape, deck, totals.as_slice())?;
     let mut state = space.state(alloc)?;
     let mut chooser = InOrder {
         images: image_order(alloc, shape, deck)?,

@@ -15,27 +15,28 @@ fn is_full(deck: &Deck, j: u16) -> bool
     true
 }
 
-// How many ballots mark target `t`, but for those that mark every target.
-fn count_column(deck: &Deck, t: u16) -> u32
-    requires { t < deck.now.targets }
-    ensures { result ≤ length deck.now.ballots }
+// Counts one more for each target that ballot `j` marks.
+fn add_marks(deck: &Deck, j: u16, columns: &mut [u32])
+    requires ballot { j < length deck.now.ballots }
+    requires long { length columns.old ≡ deck.now.targets }
+    ensures { length columns.new ≡ length columns.old }
 {
-    let mut marks: u32 = 0;
-    for j in 0..deck.ballots() {
-        if deck.is_marked(j, t) && !is_full(deck, j) {
-            marks += 1;
+    for t in 0..deck.targets() {
+        if deck.is_marked(j, t) {
+            columns[t as usize] = columns[t as usize].saturating_add(1);
         }
     }
-    marks
 }
 
 /// For each target, how many ballots mark it and not every target.
 pub fn count_columns(alloc: Global, deck: &Deck) -> Result<Vec<u32>, AllocError>
     ensures { IfOk result (λ columns. length columns.items ≡ deck.now.targets) }
 {
-    let mut columns = Vec::with_capacity(alloc, usize::from(deck.targets()))?;
-    for t in 0..deck.targets() {
-        columns.push(count_column(deck, t))?;
+    let mut columns = vec![in alloc; 0u32; usize::from(deck.targets())]?;
+    for j in 0..deck.ballots() {
+        if !is_full(deck, j) {
+            add_marks(deck, j, &mut columns);
+        }
     }
     Ok(columns)
 }

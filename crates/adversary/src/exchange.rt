@@ -1,50 +1,81 @@
 ghost use Rattle.std.specs.Prelude.{◌≡◌, ◌<◌, ◌≤◌, ℕ, List, Result, Option, length};
 ghost use Rattle.lat_base.specs.Shape.{target_count};
+ghost use Rattle.lat_base.specs.Tally.{report};
+ghost use Rattle.lat_base.specs.Misassignment.{identity};
 ghost use Rattle.evade_space.specs.Sought.{Evades};
 
 use lat_ballots::Deck;
 use lat_base::Shape;
 use lat_misassign::Misassignment;
-use lat_tabulate::{leaves_report, mark_count, total, total_under};
+use lat_tabulate::{gives_report, mark_count};
 use std::alloc::{AllocError, Global};
 
-// The misassignment, where it isn't the identity and leaves every total as it is. The totals of the
-// contests `c` and `d`, the only ones that it can change, are looked at first.
+// The misassignment, where it isn't the identity and gives the deck's own totals.
 fn if_it_evades(
     shape: &Shape,
     deck: &Deck,
+    totals: &[u32],
     s: Misassignment,
-    c: u16,
-    d: u16,
 ) -> Option<Misassignment>
     requires deck { deck.now.targets ≡ target_count shape.now }
+    requires long { length totals.now ≡ target_count shape.now }
+    requires own { totals.now
+        ≡ report shape.now deck.now.ballots (identity (target_count shape.now)) }
     requires sources { length s ≡ target_count shape.now }
-    requires first { c < length shape.now }
-    requires second { d < length shape.now }
     ensures { (evader : List ℕ) → result ≡ Option.Some evader
         → Evades shape.now deck.now.ballots evader }
 {
-    let keeps = keeps_totals(shape, deck, &s, c) && keeps_totals(shape, deck, &s, d);
-    if keeps && !s.is_identity() && leaves_report(shape, deck, &s) {
+    if !s.is_identity() && gives_report(shape, deck, &s, totals) {
         Some(s)
     } else {
         None
     }
 }
 
-// Whether a misassignment leaves the totals of contest `c` as they are.
-fn keeps_totals(shape: &Shape, deck: &Deck, s: &Misassignment, c: u16) -> bool
+// The votes of target `u` where it is exchanged with target `v` of another contest: the ballots
+// that mark `v` and have less than the limit of marks among the others of `u`'s contest.
+fn votes_exchanged(shape: &Shape, deck: &Deck, u: u16, v: u16) -> u32
     requires deck { deck.now.targets ≡ target_count shape.now }
-    requires sources { length s.now ≡ target_count shape.now }
-    requires contest { c < length shape.now }
+    requires first { u < target_count shape.now }
+    requires second { v < target_count shape.now }
 {
     let _contests = shape.contests();
-    for u in shape.first_of(c)..shape.first_of(c + 1) {
-        if total_under(shape, deck, s, u) != total(shape, deck, u) {
-            return false;
+    let c = shape.contest_of(u);
+    let limit = shape.contest(c).limit;
+    let mut votes: u32 = 0;
+    for j in 0..deck.ballots() {
+        let own = if deck.is_marked(j, u) { 1 } else { 0 };
+        if deck.is_marked(j, v) && mark_count(shape, deck, j, c).saturating_sub(own) < limit {
+            votes = votes.saturating_add(1);
         }
     }
-    true
+    votes
+}
+
+// Whether the exchange of two targets leaves the totals of both as they are.
+fn keeps_both(shape: &Shape, deck: &Deck, totals: &[u32], u: u16, v: u16) -> bool
+    requires deck { deck.now.targets ≡ target_count shape.now }
+    requires long { length totals.now ≡ target_count shape.now }
+    requires first { u < target_count shape.now }
+    requires second { v < target_count shape.now }
+{
+    if shape.contest_of(u) == shape.contest_of(v) {
+        return totals[u as usize] == totals[v as usize];
+    }
+    votes_exchanged(shape, deck, u, v) == totals[u as usize]
+        && votes_exchanged(shape, deck, v, u) == totals[v as usize]
+}
+
+// Whether two contests of the same number of targets have the same totals.
+fn are_level(shape: &Shape, totals: &[u32], c: u16, d: u16) -> bool
+    requires long { length totals.now ≡ target_count shape.now }
+    requires first { c < length shape.now }
+    requires second { d < length shape.now }
+{
+    let _contests = shape.contests();
+    let ours = shape.first_of(c) as usize..shape.first_of(c + 1) as usize;
+    let theirs = shape.first_of(d) as usize..shape.first_of(d + 1) as usize;
+    totals[ours] == totals[theirs]
 }
 
 // How many ballots overvote some contest.
@@ -81,20 +112,24 @@ fn exchange_of(
     alloc: Global,
     shape: &Shape,
     deck: &Deck,
+    totals: &[u32],
     overvoted: u32,
     u: u16,
 ) -> Result<Option<Misassignment>, AllocError>
     requires deck { deck.now.targets ≡ target_count shape.now }
+    requires long { length totals.now ≡ target_count shape.now }
+    requires own { totals.now
+        ≡ report shape.now deck.now.ballots (identity (target_count shape.now)) }
     requires target { u < target_count shape.now }
     ensures { (s : List ℕ) → result ≡ Result.Ok (Option.Some s)
         → Evades shape.now deck.now.ballots s }
 {
     let targets = shape.targets();
-    let votes = total(shape, deck, u);
     for v in u + 1..targets {
-        if total(shape, deck, v).abs_diff(votes) <= overvoted {
+        let apart = totals[u as usize].abs_diff(totals[v as usize]);
+        if apart <= overvoted && keeps_both(shape, deck, totals, u, v) {
             let s = Misassignment::swap(alloc, targets, u, v)?;
-            let evader = if_it_evades(shape, deck, s, shape.contest_of(u), shape.contest_of(v));
+            let evader = if_it_evades(shape, deck, totals, s);
             if evader.is_some() {
                 return Ok(evader);
             }
@@ -108,14 +143,18 @@ fn find_target_exchange(
     alloc: Global,
     shape: &Shape,
     deck: &Deck,
+    totals: &[u32],
 ) -> Result<Option<Misassignment>, AllocError>
-    requires { deck.now.targets ≡ target_count shape.now }
+    requires deck { deck.now.targets ≡ target_count shape.now }
+    requires long { length totals.now ≡ target_count shape.now }
+    requires own { totals.now
+        ≡ report shape.now deck.now.ballots (identity (target_count shape.now)) }
     ensures { (s : List ℕ) → result ≡ Result.Ok (Option.Some s)
         → Evades shape.now deck.now.ballots s }
 {
     let overvoted = count_overvoted(shape, deck);
     for u in 0..shape.targets() {
-        let evader = exchange_of(alloc, shape, deck, overvoted, u)?;
+        let evader = exchange_of(alloc, shape, deck, totals, overvoted, u)?;
         if evader.is_some() {
             return Ok(evader);
         }
@@ -130,17 +169,21 @@ fn contest_exchange_of(
     alloc: Global,
     shape: &Shape,
     deck: &Deck,
+    totals: &[u32],
     d: u16,
 ) -> Result<Option<Misassignment>, AllocError>
     requires deck { deck.now.targets ≡ target_count shape.now }
+    requires long { length totals.now ≡ target_count shape.now }
+    requires own { totals.now
+        ≡ report shape.now deck.now.ballots (identity (target_count shape.now)) }
     requires contest { d < length shape.now }
     ensures { (s : List ℕ) → result ≡ Result.Ok (Option.Some s)
         → Evades shape.now deck.now.ballots s }
 {
     for c in 0..d {
-        if shape.contest(c) == shape.contest(d) {
+        if shape.contest(c) == shape.contest(d) && are_level(shape, totals, c, d) {
             let s = Misassignment::swap_contests(alloc, shape, c, d)?;
-            let evader = if_it_evades(shape, deck, s, c, d);
+            let evader = if_it_evades(shape, deck, totals, s);
             if evader.is_some() {
                 return Ok(evader);
             }
@@ -154,13 +197,17 @@ fn find_contest_exchange(
     alloc: Global,
     shape: &Shape,
     deck: &Deck,
+    totals: &[u32],
 ) -> Result<Option<Misassignment>, AllocError>
-    requires { deck.now.targets ≡ target_count shape.now }
+    requires deck { deck.now.targets ≡ target_count shape.now }
+    requires long { length totals.now ≡ target_count shape.now }
+    requires own { totals.now
+        ≡ report shape.now deck.now.ballots (identity (target_count shape.now)) }
     ensures { (s : List ℕ) → result ≡ Result.Ok (Option.Some s)
         → Evades shape.now deck.now.ballots s }
 {
     for d in 0..shape.contests() {
-        let evader = contest_exchange_of(alloc, shape, deck, d)?;
+        let evader = contest_exchange_of(alloc, shape, deck, totals, d)?;
         if evader.is_some() {
             return Ok(evader);
         }
@@ -168,20 +215,25 @@ fn find_contest_exchange(
     Ok(None)
 }
 
-/// An exchange of two targets or of two whole contests that evades, where there is one.
+/// An exchange of two targets or of two whole contests that evades, where there is one. `totals`
+/// are the deck's own, in ballots. The only error is want of memory.
 pub fn find_exchange(
     alloc: Global,
     shape: &Shape,
     deck: &Deck,
+    totals: &[u32],
 ) -> Result<Option<Misassignment>, AllocError>
-    requires { deck.now.targets ≡ target_count shape.now }
+    requires deck { deck.now.targets ≡ target_count shape.now }
+    requires long { length totals.now ≡ target_count shape.now }
+    requires own { totals.now
+        ≡ report shape.now deck.now.ballots (identity (target_count shape.now)) }
     ensures { (s : List ℕ) → result ≡ Result.Ok (Option.Some s)
         → Evades shape.now deck.now.ballots s }
 {
-    let evader = find_target_exchange(alloc, shape, deck)?;
+    let evader = find_target_exchange(alloc, shape, deck, totals)?;
     if evader.is_some() {
         return Ok(evader);
     }
-    let evader = find_contest_exchange(alloc, shape, deck)?;
+    let evader = find_contest_exchange(alloc, shape, deck, totals)?;
     Ok(evader)
 }

@@ -1,6 +1,7 @@
 -- Reports and their totals.
 use Rattle.std.proofs.Common.{◌≡◌, ◌≤◌, ◌<◌, ◌+◌, ℕ, zero, suc, Bool, List, ◌∷◌, length, get_or, map, refl, ap, sym, ◌∙◌, arith}
 use Rattle.std.specs.List.{range_with_len}
+use Rattle.std.proofs.lemmas.List.{ext_get_or}
 use Rattle.std.proofs.lemmas.List.FromFn.{get_or-map-range_with_len, length-map-range_with_len}
 use Rattle.lat_base.specs.declared.contest.Contest.{Contest}
 use Rattle.lat_base.specs.Shape.{target_count}
@@ -29,3 +30,20 @@ report_same contests deck s o u h same = sym (get_or-map-range_with_len (total c
 pub report_long : (contests : List Contest) (deck : List (List Bool)) (s : List ℕ)
     → length (report contests deck s) ≡ target_count contests
 report_long contests deck s = length-map-range_with_len (total contests deck s) 0 (target_count contests)
+
+-- the total of a target stands at its place in the report
+pub report_at : (contests : List Contest) (deck : List (List Bool)) (s : List ℕ) (u : ℕ)
+    → u < target_count contests → get_or (report contests deck s) u 0 ≡ total contests deck s u
+report_at contests deck s u lt =
+    get_or-map-range_with_len (total contests deck s) 0 (target_count contests) u u 0 lt (omega arith)
+
+-- a list that has each target's total at its place is the report
+pub are_report : (contests : List Contest) (deck : List (List Bool)) (s totals : List ℕ)
+    → length totals ≡ target_count contests
+    → ((u : ℕ) → u < target_count contests → total contests deck s u ≡ get_or totals u 0)
+    → report contests deck s ≡ totals
+are_report contests deck s totals long each =
+    let size = report_long contests deck s in
+    ext_get_or 0 (report contests deck s) totals (size ∙ sym long) (λ u lt.
+      let within : u < target_count contests = omega (arith, lt, size) in
+      report_at contests deck s u within ∙ each u within)
