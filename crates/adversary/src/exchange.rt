@@ -73,9 +73,15 @@ fn are_level(shape: &Shape, totals: &[u32], c: u16, d: u16) -> bool
     requires second { d < length shape.now }
 {
     let _contests = shape.contests();
-    let ours = shape.first_of(c) as usize..shape.first_of(c + 1) as usize;
-    let theirs = shape.first_of(d) as usize..shape.first_of(d + 1) as usize;
-    totals[ours] == totals[theirs]
+    let first = shape.first_of(c);
+    let other = shape.first_of(d);
+    for u in first..shape.first_of(c + 1) {
+        let v = other.saturating_add(u.saturating_sub(first));
+        if totals.get(usize::from(u)) != totals.get(usize::from(v)) {
+            return false;
+        }
+    }
+    true
 }
 
 // How many ballots overvote some contest.
