@@ -14,7 +14,7 @@ use Rattle.evade_space.specs.Seen.{taken, is_free_mark, free_marks}
 use Rattle.evade_space.specs.Losses.{over, lost_on, lost_in, lost}
 use Rattle.evade_space.specs.Counts.{taken_in, free_in, counts_of}
 use Rattle.evade_space.specs.Sought.{Sought, IsSought}
-use Rattle.evade_space.specs.BallotSets.{has_mark}
+use Rattle.lat_ballots.specs.Columns.{has_mark}
 use Rattle.evade_space.specs.Trials.{IsGiving}
 use Rattle.evade_space.proofs.AfterTrial.{one_more}
 use Rattle.evade_space.proofs.OneMore.{taken_here, free_here}

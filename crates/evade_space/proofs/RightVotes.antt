@@ -8,7 +8,8 @@ use Rattle.evade_space.specs.Sources.{source_at, empty_places, AreGiven}
 use Rattle.evade_space.specs.Seen.{taken, free_marks, most_marks}
 use Rattle.evade_space.specs.Votes.{may_vote_on, may_vote, must_vote_on, must_vote}
 use Rattle.evade_space.specs.Sought.{Sought}
-use Rattle.evade_space.specs.BallotSets.{IsSet, has_mark, common_ones}
+use Rattle.lat_ballots.specs.Columns.{IsSet, has_mark}
+use Rattle.evade_space.specs.BallotSets.{common_ones}
 use Rattle.evade_space.specs.Masks.{is_within, is_sure, AreContestSets}
 use Rattle.evade_space.specs.Recounts.{AreVotes}
 use Rattle.evade_space.proofs.Counted.{may_is, must_is}

@@ -1,7 +1,7 @@
 ghost use Rattle.std.specs.Prelude.{◌≡◌, ◌<◌, ◌≤◌, ◌+◌, ◌*◌, ℕ, true, [], length, get_or, slice_set, sum_by, cond, IfOk};
 ghost use Rattle.lat_base.specs.Shape.{target_count, contest_of};
 ghost use Rattle.evade_space.specs.Sources.{AreGiven, with_source};
-ghost use Rattle.evade_space.specs.BallotSets.{has_mark};
+ghost use Rattle.lat_ballots.specs.Columns.{has_mark};
 ghost use Rattle.evade_space.specs.Losses.{over, lost};
 ghost use Rattle.evade_space.specs.Counts.{Counts, taken_in, free_in, counts_of};
 ghost use Rattle.evade_space.specs.Trials.{IsGiving};

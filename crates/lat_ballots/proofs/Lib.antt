@@ -6,3 +6,5 @@ pub mod RowReadings
 pub mod PlainDeck
 pub mod Sorting
 pub mod Common
+pub mod Pages
+pub mod AllColumns

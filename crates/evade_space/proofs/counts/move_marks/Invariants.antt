@@ -1,5 +1,5 @@
 use Rattle.std.proofs.Common.{◌≡◌, ◌<◌, ◌≤◌, ◌+◌, ℕ, [], cond, length, get_or}
-use Rattle.evade_space.specs.BallotSets.{has_mark}
+use Rattle.lat_ballots.specs.Columns.{has_mark}
 use Rattle.evade_space.proofs.counts.move_marks.Given as goal
 
 abbrev pub invariant-loop-j : goal.invariant-loop-j

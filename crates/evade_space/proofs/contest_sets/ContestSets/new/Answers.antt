@@ -1,7 +1,7 @@
 use Rattle.std.proofs.Common.{◌≡◌, ◌<◌, ℕ, ◌∙◌, arith}
 use Rattle.std.proofs.lemmas.List.{length-set}
 use Rattle.evade_space.specs.Masks.{is_within, has_room, is_sure, is_sure_with}
-use Rattle.evade_space.proofs.Pages.{set_more}
+use Rattle.lat_ballots.proofs.Pages.{set_more}
 use Rattle.evade_space.proofs.contest_sets.ContestSets.new.Goals as goal
 
 pub loop-i-preserved : goal.loop-i-preserved

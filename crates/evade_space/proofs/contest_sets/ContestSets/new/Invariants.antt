@@ -1,5 +1,5 @@
 use Rattle.std.proofs.Common.{◌≡◌, length}
-use Rattle.evade_space.specs.BallotSets.{IsSet}
+use Rattle.lat_ballots.specs.Columns.{IsSet}
 use Rattle.evade_space.specs.Masks.{is_within, has_room, is_sure, is_sure_with}
 use Rattle.evade_space.proofs.contest_sets.ContestSets.new.Given as goal
 
