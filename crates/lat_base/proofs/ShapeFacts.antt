@@ -6,10 +6,11 @@ use Rattle.std.proofs.lemmas.List.Sums.{sum_by-take-le, sum_by-cons}
 use Rattle.std.proofs.lemmas.List.Elements.{All-from_recursion, All-head}
 use Rattle.std.proofs.lemmas.Bool.Decides.{nat_tests}
 use Rattle.lat_base.specs.declared.contest.Contest.{Contest}
+use Rattle.lat_base.specs.declared.limits.TheConstants.{MOST_IN_CONTEST, MOST_VOTES}
 use Rattle.lat_base.specs.declared.shape_fault.ShapeFault.{ShapeFault}
 use Rattle.lat_base.specs.declared.shape_fault.ShapeFault.TheVariants.{Empty, TooManyContests, TooManyTargets}
 use Rattle.lat_base.specs.Shape.{IsShape, AreFirsts, first_target, target_count}
-use Rattle.lat_base.specs.ShapeFault.{contest_fault, shape_fault, is_in_range}
+use Rattle.lat_base.specs.ShapeFault.{contest_fault, shape_fault, is_up_to}
 
 -- a contest's first target is at most the number of targets
 pub first_target_le : (contests : List Contest) (c : ℕ)
@@ -20,7 +21,7 @@ first_target_le contests c = sum_by-take-le (λ x. x.targets) contests c
 pub some_target : (contests : List Contest) → IsShape contests → 1 ≤ target_count contests
 some_target [] is = absurd (omega (arith, is.some))
 some_target (c ∷ contests) is =
-    let first = All-head (λ (x : Contest). (1 ≤ x.targets) × (x.targets ≤ 64)) c contests is.counts in
+    let first = All-head (λ (x : Contest). (1 ≤ x.targets) × (x.targets ≤ MOST_IN_CONTEST)) c contests is.counts in
     omega (arith, sum_by-cons (λ (x : Contest). x.targets) c contests, first.0)
 
 -- where nothing is found, the test failed and nothing is found after it
@@ -29,18 +30,18 @@ pub nothing : {A : Type 0} (b : Bool) (x : A) (y : Option A) → cond b (Some x)
 nothing true x y h = cc
 nothing false x y h = (refl, h)
 
-in_range_fits : (n : ℕ) → not (is_in_range n) ≡ false → (1 ≤ n) × (n ≤ 64)
-in_range_fits n h = (grind (arith, nat_tests), grind (arith, nat_tests))
+up_to_fits : (most n : ℕ) → not (is_up_to most n) ≡ false → (1 ≤ n) × (n ≤ most)
+up_to_fits most n h = (grind (arith, nat_tests), grind (arith, nat_tests))
 
 limits_fit : (i : ℕ) (contests : List Contest) → contest_fault i contests ≡ None
-    → AllByRecursion (λ c. (1 ≤ c.limit) × (c.limit ≤ 64)) contests
-    × AllByRecursion (λ c. (1 ≤ c.targets) × (c.targets ≤ 64)) contests
+    → AllByRecursion (λ c. (1 ≤ c.limit) × (c.limit ≤ MOST_VOTES)) contests
+    × AllByRecursion (λ c. (1 ≤ c.targets) × (c.targets ≤ MOST_IN_CONTEST)) contests
 limits_fit i [] h = (tt, tt)
 limits_fit i (c ∷ contests) h =
     let a = nothing _ _ _ h in
     let b = nothing _ _ _ a.1 in
     let more = limits_fit (i + 1) contests b.1 in
-    ((in_range_fits c.limit a.0, more.0), (in_range_fits c.targets b.0, more.1))
+    ((up_to_fits MOST_VOTES c.limit a.0, more.0), (up_to_fits MOST_IN_CONTEST c.targets b.0, more.1))
 
 neither : {A : Type 0} (o rest : Option A) → cond (is_some o) o rest ≡ None
     → (o ≡ None) × (rest ≡ None)

@@ -2,6 +2,7 @@
 use Rattle.std.specs.Prelude.{◌≡◌, ◌≢◌, ◌<◌, ◌≤◌, ℕ, Bool, List, length, count_by, not, IsTrue, nat_lt, if◌then◌else◌, Option, Some, None}
 use Rattle.std.specs.List.{list_all}
 use Rattle.lat_base.specs.declared.contest.Contest.{Contest}
+use Rattle.lat_base.specs.declared.limits.TheConstants.{MOST_LEAST, MOST_BLANK, MOST_OVER}
 use Rattle.lat_base.specs.declared.rules.RuleFault.{RuleFault}
 use Rattle.lat_base.specs.declared.rules.RuleFault.TheVariants.{BadLeast, BadBlank, BadOver}
 use Rattle.lat_base.specs.Shape.{target_count, contest_at, contest_of, CanOvervote}
@@ -19,9 +20,9 @@ rule_set distinct least blank over =
 
 -- the limits on the rules' numbers
 pub record IsRuleSet (rules : RuleSet) : Type 0 where
-  pub least : rules.least ≤ 64
-  pub blank : rules.blank ≤ 16
-  pub over : rules.over ≤ 16
+  pub least : rules.least ≤ MOST_LEAST
+  pub blank : rules.blank ≤ MOST_BLANK
+  pub over : rules.over ≤ MOST_OVER
 
 -- a ballot with no mark
 abbrev pub is_blank : List Bool → Bool
@@ -45,7 +46,7 @@ pub record Obeys (contests : List Contest) (rules : RuleSet) (deck : List (List 
 -- the first number that is above its limit
 abbrev pub rule_fault : RuleSet → Option RuleFault
 rule_fault rules =
-    if nat_lt 64 rules.least then Some (BadLeast rules.least)
-    else if nat_lt 16 rules.blank then Some (BadBlank rules.blank)
-    else if nat_lt 16 rules.over then Some (BadOver rules.over)
+    if nat_lt MOST_LEAST rules.least then Some (BadLeast rules.least)
+    else if nat_lt MOST_BLANK rules.blank then Some (BadBlank rules.blank)
+    else if nat_lt MOST_OVER rules.over then Some (BadOver rules.over)
     else None

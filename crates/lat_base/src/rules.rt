@@ -89,7 +89,7 @@ impl Rules {
     /// The least number of votes of each target.
     pub fn least(&self) -> u16
         ensures value { result ≡ self.now.least }
-        ensures limit { result ≤ 64 }
+        ensures limit { result ≤ MOST_LEAST }
     {
         self.least
     }
@@ -97,7 +97,7 @@ impl Rules {
     /// The least number of ballots with no mark.
     pub fn blank(&self) -> u16
         ensures value { result ≡ self.now.blank }
-        ensures limit { result ≤ 16 }
+        ensures limit { result ≤ MOST_BLANK }
     {
         self.blank
     }
@@ -105,7 +105,7 @@ impl Rules {
     /// The least number of ballots that overvote each contest that can be overvoted.
     pub fn over(&self) -> u16
         ensures value { result ≡ self.now.over }
-        ensures limit { result ≤ 16 }
+        ensures limit { result ≤ MOST_OVER }
     {
         self.over
     }

@@ -33,7 +33,7 @@ impl Model for Shape {
 
 // The number of the first target of each contest, and of one more.
 fn first_targets(alloc: Global, contests: &[Contest]) -> Result<Vec<u16>, AllocError>
-    requires { target_count contests.now ≤ 256 }
+    requires { target_count contests.now ≤ MOST_TARGETS }
     ensures { IfOk result (λ firsts. AreFirsts contests.now firsts.items) }
 {
     let mut firsts = Vec::new(alloc);

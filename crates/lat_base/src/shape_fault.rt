@@ -2,7 +2,7 @@ ghost use Rattle.std.specs.Prelude.{◌≡◌, ◌≤◌, length};
 ghost use Rattle.lat_base.specs.Shape.{target_count};
 ghost use Rattle.lat_base.specs.ShapeFault.{contest_fault};
 
-use crate::Contest;
+use crate::{Contest, MOST_CONTESTS, MOST_IN_CONTEST, MOST_VOTES};
 use thiserror::Error;
 
 /// Why a list of contests is no ballot style. Contests are numbered from 0.
@@ -29,14 +29,14 @@ pub enum ShapeFault {
 
 // The first contest whose limit or number of targets is out of range.
 pub fn find_contest_fault(contests: &[Contest]) -> Option<ShapeFault>
-    requires { length contests.now ≤ 128 }
+    requires { length contests.now ≤ MOST_CONTESTS }
     ensures { result ≡ contest_fault 0 contests.now }
 {
     for (i, contest) in contests.iter().enumerate() {
-        if contest.limit == 0 || contest.limit > 64 {
+        if contest.limit == 0 || contest.limit > MOST_VOTES {
             return Some(ShapeFault::BadLimit(i as u16, contest.limit));
         }
-        if contest.targets == 0 || contest.targets > 64 {
+        if contest.targets == 0 || contest.targets > MOST_IN_CONTEST {
             return Some(ShapeFault::BadCount(i as u16, contest.targets));
         }
     }
@@ -45,7 +45,7 @@ pub fn find_contest_fault(contests: &[Contest]) -> Option<ShapeFault>
 
 // How many targets the contests have together.
 pub fn count_targets(contests: &[Contest]) -> u32
-    requires { length contests.now ≤ 128 }
+    requires { length contests.now ≤ MOST_CONTESTS }
     ensures { result ≡ target_count contests.now }
 {
     let mut sum: u32 = 0;
