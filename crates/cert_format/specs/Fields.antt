@@ -1,6 +1,7 @@
 -- The fields behind the head of a certificate, an open file and an evade file: their spellings, and
 -- which values have one.
 use Rattle.std.specs.Prelude.{◌≤◌, ◌∷◌, ◌++◌, [], ℕ, List, length, Option, Some, None}
+use Rattle.lat_base.specs.declared.limits.TheConstants.{MOST_BALLOTS}
 use Rattle.lat_base.specs.declared.contest.Contest.{Contest}
 use Rattle.lat_base.specs.Shape.{target_count}
 use Rattle.lat_ballots.specs.Deck.{Ballots}
@@ -68,7 +69,7 @@ license_text (Deck deck tree) = 2 ∷ attacked_text deck tree
 pub record IsAttackedField (targets : ℕ) (deck : Ballots)
     (nodes : List (Node ℕ Skipped)) : Type 0 where
   pub rows : IsDeckOf targets (length deck.ballots) deck
-  pub few : length deck.ballots ≤ 1024
+  pub few : length deck.ballots ≤ MOST_BALLOTS
   pub tree : IsTreeOf AnyImage AnySkipped nodes
 
 abbrev pub IsProvedField : List Contest → Proved → Type 0

@@ -3,6 +3,7 @@
 use Rattle.std.specs.Prelude.{ℕ, ◌==◌, ◌&&◌, nat_le, Bool, List, length, take, drop, Option, Some}
 use Rattle.std.specs.Prelude.{None, if◌then◌else◌}
 use Rattle.std.specs.Str.{bytes_eq}
+use Rattle.lat_base.specs.declared.limits.TheConstants.{MOST_BALLOTS}
 use Rattle.lat_base.specs.declared.contest.Contest.{Contest}
 use Rattle.lat_base.specs.Shape.{target_count}
 use Rattle.lat_ballots.specs.Deck.{Ballots}
@@ -30,9 +31,9 @@ limited_at least most bytes = tested_at (in_limits least most) u16_at bytes
 
 abbrev pub verdict_by : ℕ → List ℕ → Option (Verdict × List ℕ)
 verdict_by tag bytes =
-    if tag == 1 then made_at Least (limited_at 0 1024) bytes
-    else if tag == 2 then made_at NoneWithin (limited_at 1 1024) bytes
-    else if tag == 3 then made_at Bounds (limited_at 0 1024) bytes
+    if tag == 1 then made_at Least (limited_at 0 MOST_BALLOTS) bytes
+    else if tag == 2 then made_at NoneWithin (limited_at 1 MOST_BALLOTS) bytes
+    else if tag == 3 then made_at Bounds (limited_at 0 MOST_BALLOTS) bytes
     else None
 
 unfoldable pub verdict_at : List ℕ → Option (Verdict × List ℕ)
@@ -50,7 +51,7 @@ proved_at targets k bytes =
 
 unfoldable pub sized_at : ℕ → List ℕ → Option (Proved × List ℕ)
 sized_at targets bytes =
-    made_at (λ p. p.1) (pair_at (limited_at 0 1024) (λ n. proved_at targets n)) bytes
+    made_at (λ p. p.1) (pair_at (limited_at 0 MOST_BALLOTS) (λ n. proved_at targets n)) bytes
 
 abbrev pub best_by : ℕ → ℕ → List ℕ → Option (Option Proved × List ℕ)
 best_by targets tag bytes =
@@ -101,7 +102,7 @@ abbrev pub OpenBody : Type 0
 OpenBody = (((ℕ × ℕ) × Option Proved) × Option LowerPart) × License
 
 abbrev pub sizes_at : List ℕ → Option ((ℕ × ℕ) × List ℕ)
-sizes_at bytes = pair_at (limited_at 1 1024) (λ max. limited_at 0 max) bytes
+sizes_at bytes = pair_at (limited_at 1 MOST_BALLOTS) (λ max. limited_at 0 max) bytes
 
 unfoldable pub open_body_at : List Contest → List ℕ → Option (OpenBody × List ℕ)
 open_body_at contests bytes =

@@ -1,6 +1,7 @@
 -- How the rest of a certificate is read from each place where a stream can stand, as functions on
 -- the bytes that are left. Each gives the parts of the whole certificate.
 use Rattle.std.specs.Prelude.{ℕ, ◌==◌, ◌++◌, [], List, length, Option, Some, None, if◌then◌else◌}
+use Rattle.lat_base.specs.declared.limits.TheConstants.{MOST_BALLOTS}
 use Rattle.lat_base.specs.declared.contest.Contest.{Contest}
 use Rattle.lat_base.specs.Shape.{target_count}
 use Rattle.lat_ballots.specs.Deck.{Ballots}
@@ -36,7 +37,7 @@ whole_at bytes = file_at cert_magic cert_parts_at bytes
 abbrev pub flagged_by : ℕ → Reader (Option ℕ)
 flagged_by tag bytes =
     if tag == 0 then Some (None, bytes)
-    else if tag == 1 then made_at Some (limited_at 0 1024) bytes
+    else if tag == 1 then made_at Some (limited_at 0 MOST_BALLOTS) bytes
     else None
 
 -- the number of ballots of the deck, if there is one: that of Least stands in the verdict

@@ -1,5 +1,6 @@
 -- What a stream keeps of itself at each place, whatever bytes it stands for.
 use Rattle.std.specs.Prelude.{◌≡◌, ◌≤◌, ◌<◌, ℕ, zero, suc, Bool, false, List, [], length, Option, Some, None, nat_lt, ◌&&◌, ◌==◌, if◌then◌else◌}
+use Rattle.lat_base.specs.declared.limits.TheConstants.{MOST_BALLOTS}
 use Rattle.cert_fields.specs.Head.{Head}
 use Rattle.cert_types.specs.Fitting.{IsVerdict}
 use Rattle.close_rules.specs.declared.label.Label.{Label}
@@ -40,10 +41,10 @@ IsDeckCheck (Off part i) wanted = Unit {0}
 -- the numbers are in range, and each walk is one
 abbrev pub IsPhase : Phase → Type 0
 IsPhase Start = Unit {0}
-IsPhase (Rows front k) = IsVerdict front.verdict × (k ≤ 1024)
+IsPhase (Rows front k) = IsVerdict front.verdict × (k ≤ MOST_BALLOTS)
 IsPhase (Robust front wanted check) =
     IsVerdict front.verdict × (0 < wanted) × IsEvadeCheck check wanted
-IsPhase (Contests front size fault) = size ≤ 1024
+IsPhase (Contests front size fault) = size ≤ MOST_BALLOTS
 IsPhase (Lower front wanted check) = (0 < wanted) × IsDeckCheck check wanted
 IsPhase (Done front fault) = Unit {0}
 

@@ -1,5 +1,6 @@
 -- For which bytes a stream stands.
 use Rattle.std.specs.Prelude.{◌≡◌, ◌≤◌, ◌++◌, ℕ, List, [], length, Option, Some, None, option_map, IfSome}
+use Rattle.lat_base.specs.declared.limits.TheConstants.{MOST_BALLOTS}
 use Rattle.lat_base.specs.declared.contest.Contest.{Contest}
 use Rattle.lat_base.specs.Part.{IsPart, part}
 use Rattle.lat_base.specs.Rules.{RuleSet, Obeys}
@@ -91,7 +92,7 @@ StandsAt (Contests front size fault) held all =
     × Reads all held (lower_left (head_of front) front.verdict proved size)
 StandsAt (Lower front wanted check) held all =
     (proved : Option Proved) × (chosen : List ℕ) × (size : ℕ) × (nodes : List (Node Label Reason))
-    × (front.best ≡ ballots_of proved) × IsPart front.shape chosen × (size ≤ 1024)
+    × (front.best ≡ ballots_of proved) × IsPart front.shape chosen × (size ≤ MOST_BALLOTS)
     × (wanted_after 1 nodes ≡ Some wanted)
     × LowerSoFar front.shape front.rules proved chosen size nodes check
     × Reads all held

@@ -1,5 +1,6 @@
 -- Which parts a file must have, and that they fit its style.
 use Rattle.std.specs.Prelude.{◌≡◌, ◌≤◌, ℕ, zero, suc, List, length, Option, Some, None}
+use Rattle.lat_base.specs.declared.limits.TheConstants.{MOST_BALLOTS}
 use Rattle.lat_base.specs.declared.contest.Contest.{Contest}
 use Rattle.lat_base.specs.Part.{IsPart}
 use Rattle.lat_base.specs.Shape.{target_count}
@@ -10,9 +11,9 @@ use Rattle.cert_types.specs.LowerPart.{LowerPart}
 
 -- no number of a verdict is above 1,024, and no verdict says that no deck of 0 ballots is good
 abbrev pub IsVerdict : Verdict → Type 0
-IsVerdict (Least k) = k ≤ 1024
-IsVerdict (NoneWithin m) = (1 ≤ m) × (m ≤ 1024)
-IsVerdict (Bounds f) = f ≤ 1024
+IsVerdict (Least k) = k ≤ MOST_BALLOTS
+IsVerdict (NoneWithin m) = (1 ≤ m) × (m ≤ MOST_BALLOTS)
+IsVerdict (Bounds f) = f ≤ MOST_BALLOTS
 
 -- the size of the lower part that shows that no deck of fewer ballots is good; none is needed for 0
 abbrev pub size_below : ℕ → Option ℕ

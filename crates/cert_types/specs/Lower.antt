@@ -1,5 +1,6 @@
 -- When a lower part shows that no deck of its size, or of fewer ballots, is good.
 use Rattle.std.specs.Prelude.{◌≤◌, ℕ, false, List}
+use Rattle.lat_base.specs.declared.limits.TheConstants.{MOST_BALLOTS}
 use Rattle.lat_base.specs.declared.contest.Contest.{Contest}
 use Rattle.lat_base.specs.Part.{IsPart, part}
 use Rattle.lat_base.specs.Rules.{RuleSet}
@@ -18,7 +19,7 @@ lower_root contests rules lower = empty (part contests lower.contests) rules low
 -- deck of the part of that size is good
 pub record IsLower (contests : List Contest) (rules : RuleSet) (lower : LowerPart) : Type 0 where
   pub is_part : IsPart contests lower.contests
-  pub few : lower.size ≤ 1024
+  pub few : lower.size ≤ MOST_BALLOTS
   pub lists : IsTree lower.tree
   pub checks : Checks deck_steps (lower_root contests rules lower) (tree_of lower.tree)
 

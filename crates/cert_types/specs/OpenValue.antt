@@ -1,5 +1,6 @@
 -- An open file, as contracts see it, and what its type keeps.
 use Rattle.std.specs.Prelude.{◌≡◌, ◌≤◌, ℕ, List, length, Option, Some, None}
+use Rattle.lat_base.specs.declared.limits.TheConstants.{MOST_BALLOTS}
 use Rattle.lat_base.specs.declared.contest.Contest.{Contest}
 use Rattle.lat_base.specs.Names.{StyleNames, NamesFit}
 use Rattle.lat_base.specs.Rules.{RuleSet}
@@ -50,7 +51,7 @@ LicenseFits contests from (Deck deck tree) =
 pub record IsOpenValue (file : OpenValue) : Type 0 where
   pub named : NamesFit file.names.contests file.contests
   pub some : 1 ≤ file.max
-  pub few : file.max ≤ 1024
+  pub few : file.max ≤ MOST_BALLOTS
   pub within : file.from ≤ file.max
   pub lower_fits : LowerFits file.contests (size_below file.from) file.lower
   pub best_fits : BestFits file.contests file.best

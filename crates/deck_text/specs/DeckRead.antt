@@ -1,5 +1,6 @@
 -- Reading a deck's file: the ballots that its rows mark, or the first row with a fault.
 use Rattle.std.specs.Prelude.{⊤, ◌<◌, ℕ, ◌+◌, ◌-◌, ◌==◌, ◌&&◌, ◌||◌, ◌++◌, true, false, List, [], ◌∷◌, length, replicate, codes, nat_lt, if◌then◌else◌, Option, Some, None, option_map, option_and_then, Result, Ok, Err}
+use Rattle.lat_base.specs.declared.limits.TheConstants.{MOST_BALLOTS}
 use Rattle.lat_base.specs.declared.contest.Contest.{Contest}
 use Rattle.lat_base.specs.declared.contest_names.ContestNames.{ContestNames}
 use Rattle.lat_base.specs.Shape.{target_count}
@@ -25,7 +26,7 @@ following ballots n =
 
 -- the number of a row's ballot, from 1 to 1,024
 abbrev pub ballot_number : ℕ → List ℕ → Option ℕ
-ballot_number ballots field = option_and_then (following ballots) (number_of 0 1024 field)
+ballot_number ballots field = option_and_then (following ballots) (number_of 0 MOST_BALLOTS field)
 
 -- what a row marks: nothing where both names are empty, or the target with these names
 abbrev pub mark_called : List FullName → List ℕ → List ℕ → Option Mark

@@ -1,5 +1,6 @@
 -- The contests of a definition.
 use Rattle.std.specs.Prelude.{ℕ, List, map, codes, Result, Ok}
+use Rattle.lat_base.specs.declared.limits.TheConstants.{MOST_IN_CONTEST, MOST_VOTES}
 use Rattle.serde_json.specs.Data.{Data}
 use Rattle.election_json.specs.declared.place.Place.TheVariants as at
 use Rattle.election_json.specs.declared.fault.DefFault.{DefFault}
@@ -21,8 +22,8 @@ unfoldable pub contest_entry : List (List ℕ) → ℕ → Data → Result Conte
 contest_entry earlier i value = do
   contest ← object (at.Contest i) value
   id ← member (codes "id") (at.ContestId i) contest >>= new_id earlier (at.ContestId i)
-  limit ← member (codes "limit") (at.Limit i) contest >>= number 1 64 (at.Limit i)
-  values ← member (codes "targets") (at.Targets i) contest >>= array 1 64 (at.Targets i)
+  limit ← member (codes "limit") (at.Limit i) contest >>= number 1 MOST_VOTES (at.Limit i)
+  values ← member (codes "targets") (at.Targets i) contest >>= array 1 MOST_IN_CONTEST (at.Targets i)
   targets ← each (target_entry i) values
   Ok (record { id = id; limit = limit; targets = targets })
 

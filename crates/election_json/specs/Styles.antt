@@ -2,6 +2,7 @@
 use Rattle.std.specs.Prelude.{ℕ, List, map, length, find, codes, nat_lt, if◌then◌else◌, Result, Ok, Err}
 use Rattle.std.specs.List.{list_any}
 use Rattle.std.specs.Str.{bytes_eq}
+use Rattle.lat_base.specs.declared.limits.TheConstants.{MOST_CONTESTS, MOST_TARGETS}
 use Rattle.serde_json.specs.Data.{Data}
 use Rattle.lat_base.specs.declared.contest.Contest.{Contest}
 use Rattle.lat_base.specs.declared.contest_names.ContestNames.{ContestNames}
@@ -59,7 +60,7 @@ next_chosen contests i j earlier value =
 -- the style, whose contests must have at most 256 targets together
 abbrev pub of_few_targets : Place → DefinedStyle → Result DefinedStyle DefFault
 of_few_targets place style =
-    if nat_lt 256 (target_count style.shape)
+    if nat_lt MOST_TARGETS (target_count style.shape)
     then Err (TooManyTargets place (target_count style.shape)) else Ok style
 
 -- style number i, whose id is none of the earlier ids
@@ -68,7 +69,7 @@ unfoldable pub style_entry : List ContestEntry → List (List ℕ) → ℕ → D
 style_entry contests earlier i value = do
   style ← object (at.Style i) value
   id ← member (codes "id") (at.StyleId i) style >>= new_id earlier (at.StyleId i)
-  values ← member (codes "contests") (at.StyleContests i) style >>= array 1 128 (at.StyleContests i)
+  values ← member (codes "contests") (at.StyleContests i) style >>= array 1 MOST_CONTESTS (at.StyleContests i)
   chosen ← each (next_chosen contests i) values
   of_few_targets (at.Style i) (style_with id chosen)
 

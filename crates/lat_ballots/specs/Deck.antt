@@ -1,5 +1,6 @@
 -- A test deck, as contracts see it.
 use Rattle.std.specs.Prelude.{◌≡◌, ◌≤◌, ℕ, Bool, List, length, map, take, All, get_or, slice_set, replicate, false, []}
+use Rattle.lat_base.specs.declared.limits.TheConstants.{MOST_BALLOTS, MOST_TARGETS}
 use Rattle.lat_base.specs.Deck.{Fits}
 
 -- a number of targets, and ballots with a mark or none for each
@@ -10,8 +11,8 @@ pub record Ballots : Type 0 where
 -- the limits on a deck
 pub record IsDeck (deck : Ballots) : Type 0 where
   pub fits : Fits deck.targets deck.ballots
-  pub few : length deck.ballots ≤ 1024
-  pub few_targets : deck.targets ≤ 256
+  pub few : length deck.ballots ≤ MOST_BALLOTS
+  pub few_targets : deck.targets ≤ MOST_TARGETS
 
 -- ballot number j
 abbrev pub ballot_at : Ballots → ℕ → List Bool
@@ -38,5 +39,5 @@ ballots_of targets rows = record { targets = targets; ballots = map (take target
 -- the rows that a deck keeps, of 256 bits each
 pub record AreRows (targets : ℕ) (rows : List (List Bool)) : Type 0 where
   pub long : All (λ row. length row ≡ 256) rows
-  pub few : length rows ≤ 1024
-  pub few_targets : targets ≤ 256
+  pub few : length rows ≤ MOST_BALLOTS
+  pub few_targets : targets ≤ MOST_TARGETS

@@ -1,6 +1,7 @@
 -- Lists of sources: at each place the target whose marks count for the target of that place.
 use Rattle.std.specs.Prelude.{ℕ, ◌+◌, ◌-◌, ◌≤◌, ◌&&◌, List, length, map, nat_lt, nat_le, Bool, if◌then◌else◌}
 use Rattle.std.specs.List.{range_with_len}
+use Rattle.lat_base.specs.declared.limits.TheConstants.{MOST_TARGETS}
 use Rattle.lat_base.specs.declared.contest.Contest.{Contest}
 use Rattle.lat_base.specs.Shape.{target_count, first_target}
 use Rattle.lat_base.specs.Misassignment.{IsMisassignment}
@@ -8,7 +9,7 @@ use Rattle.lat_base.specs.Misassignment.{IsMisassignment}
 -- the sources of a misassignment of 1 to 256 targets
 pub record AreSources (s : List ℕ) : Type 0 where
   pub some : 1 ≤ length s
-  pub few : length s ≤ 256
+  pub few : length s ≤ MOST_TARGETS
   pub is : IsMisassignment (length s) s
 
 -- whether target u is of contest c

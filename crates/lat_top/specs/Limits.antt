@@ -1,5 +1,6 @@
 -- The limits on words and files.
 use Rattle.std.specs.Prelude.{ℕ}
+use Rattle.lat_base.specs.declared.limits.TheConstants.{MOST_BALLOTS}
 
 -- how many bytes a definition or a table may have
 abbrev pub file_limit : ℕ
@@ -15,7 +16,7 @@ most_name_bytes = 1024
 
 -- how many ballots a size cap may allow
 abbrev pub most_ballots : ℕ
-most_ballots = 1024
+most_ballots = MOST_BALLOTS
 
 -- the least and the greatest budget, in nodes of a search tree
 abbrev pub least_budget : ℕ

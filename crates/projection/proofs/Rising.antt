@@ -9,7 +9,8 @@ use Rattle.std.proofs.lemmas.List.Sums.{sum_by-cons}
 use Rattle.std.proofs.lemmas.List.Elements.{All-head, All-tail}
 use Rattle.lat_base.specs.declared.contest.Contest.{Contest}
 use Rattle.lat_base.specs.Shape.{target_count, first_target, contest_at, no_contest, IsShape}
-use Rattle.lat_base.specs.ShapeFault.{shape_fault, contest_fault, is_in_range}
+use Rattle.lat_base.specs.declared.limits.TheConstants.{MOST_IN_CONTEST, MOST_VOTES}
+use Rattle.lat_base.specs.ShapeFault.{shape_fault, contest_fault, is_up_to}
 use Rattle.lat_base.specs.Part.{IsPart, part}
 use Rattle.readings.proofs.Places.{first_next, first_mono, first_le}
 use Rattle.projection.specs.declared.part_fault.PartFault.TheVariants.{OutOfRange, NotRising}
@@ -97,9 +98,9 @@ no_contest_fault contests i (c ∷ chosen) is within =
     let c_in = All-head (λ (x : ℕ). x < length contests) c chosen within in
     let limit = is.limits c no_contest c_in in
     let count = is.counts c no_contest c_in in
-    let first : not (is_in_range (contest_at contests c).limit) ≡ false = grind (arith, nat_tests, limit.0, limit.1) in
-    let second : not (is_in_range (contest_at contests c).targets) ≡ false = grind (arith, nat_tests, count.0, count.1) in
-    neither _ _ (contest_fault (i + 1) (part contests chosen)) (not (is_in_range (contest_at contests c).limit)) (not (is_in_range (contest_at contests c).targets)) first second (no_contest_fault contests (i + 1) chosen is (All-tail (λ (x : ℕ). x < length contests) c chosen within))
+    let first : not (is_up_to MOST_VOTES (contest_at contests c).limit) ≡ false = grind (arith, nat_tests, limit.0, limit.1) in
+    let second : not (is_up_to MOST_IN_CONTEST (contest_at contests c).targets) ≡ false = grind (arith, nat_tests, count.0, count.1) in
+    neither _ _ (contest_fault (i + 1) (part contests chosen)) (not (is_up_to MOST_VOTES (contest_at contests c).limit)) (not (is_up_to MOST_IN_CONTEST (contest_at contests c).targets)) first second (no_contest_fault contests (i + 1) chosen is (All-tail (λ (x : ℕ). x < length contests) c chosen within))
   where
     neither : {A : Type 0} (p q : A) (rest : Option A) (x y : Bool) → x ≡ false → y ≡ false
         → rest ≡ None → cond x (Some p) (cond y (Some q) rest) ≡ None
