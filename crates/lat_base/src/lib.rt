@@ -18,7 +18,7 @@ pub use contest_names::ContestNames;
 pub use id::{Id, IdFault, is_id};
 pub use limits::{
     MOST_BALLOTS, MOST_BLANK, MOST_CONTESTS, MOST_ID_BYTES, MOST_IN_CONTEST, MOST_LEAST, MOST_OVER,
-    MOST_TARGETS, MOST_VOTES,
+    MOST_TARGETS, MOST_VOTES, the_limits,
 };
 pub use names::{NameFault, Names};
 pub use names0::Names0;

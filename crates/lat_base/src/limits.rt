@@ -1,5 +1,7 @@
 //! The limits on styles, rules and decks. Contracts cite them by these names.
 
+ghost use Rattle.std.specs.Prelude.{◌≡◌};
+
 /// How many contests a style may have.
 pub const MOST_CONTESTS: u16 = 128;
 
@@ -26,3 +28,16 @@ pub const MOST_BLANK: u16 = 16;
 
 /// How many overvoted ballots of a contest the rules may ask for.
 pub const MOST_OVER: u16 = 16;
+
+/// A law: what these limits are. The call does nothing.
+pub fn the_limits()
+    ensures contests { MOST_CONTESTS ≡ 128 }
+    ensures targets { MOST_TARGETS ≡ 256 }
+    ensures in_contest { MOST_IN_CONTEST ≡ 64 }
+    ensures votes { MOST_VOTES ≡ 64 }
+    ensures id_bytes { MOST_ID_BYTES ≡ 64 }
+    ensures ballots { MOST_BALLOTS ≡ 1024 }
+    ensures least { MOST_LEAST ≡ 64 }
+    ensures blank { MOST_BLANK ≡ 16 }
+    ensures over { MOST_OVER ≡ 16 }
+{}

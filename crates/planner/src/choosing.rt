@@ -61,7 +61,7 @@ impl DeckChooser {
         if let Some(reason) = find_kept(alloc, &self.kept, state)? {
             return Ok(Pick::Close(reason));
         }
-        if let Some(reason) = guess(alloc, state)? {
+        if let Some(reason) = guess(alloc, state, self.budget)? {
             return Ok(Pick::Close(reason));
         }
         if let Some(label) = next_label(state) {

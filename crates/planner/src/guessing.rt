@@ -1,4 +1,4 @@
-ghost use Rattle.std.specs.Prelude.{◌≡◌, ◌<◌, true, Some, Ok, length};
+ghost use Rattle.std.specs.Prelude.{◌≡◌, ◌<◌, ◌≤◌, true, Some, Ok, length};
 ghost use Rattle.close_rules.specs.declared.reason.Reason.{Reason};
 ghost use Rattle.close_rules.specs.Refutes.{refutes};
 
@@ -11,7 +11,7 @@ use lat_misassign::{MisFault, Misassignment};
 use projection::{PartFault, part, restrict};
 use std::alloc::{AllocError, Global};
 
-/// How many nodes an attack on the contests that are decided may have.
+/// How many nodes an attack on the contests that are decided may have, where the budget allows it.
 const PART_NODES: u64 = 100_000;
 
 // Whether each mark of contest c is decided.
@@ -91,7 +91,9 @@ fn extended(
 
 // A misassignment that evades the part of the contests that are decided, where a contest has just
 // become so and an attack finds one.
-fn guessed(alloc: Global, state: &Partial) -> Result<Option<Misassignment>, AllocError> {
+fn guessed(alloc: Global, state: &Partial, budget: u64) -> Result<Option<Misassignment>, AllocError>
+    requires { 1 ≤ budget }
+{
     if !has_just_decided(state) {
         return Ok(None);
     }
@@ -104,7 +106,7 @@ fn guessed(alloc: Global, state: &Partial) -> Result<Option<Misassignment>, Allo
     };
     let deck = shown_deck(alloc, state)?;
     let cut = restrict(alloc, shape, &deck, contests.as_slice())?;
-    match attack(alloc, &part_shape, &cut, PART_NODES)? {
+    match attack(alloc, &part_shape, &cut, PART_NODES.min(budget))? {
         Attacked::Evaded(s) => {
             let whole = extended(alloc, shape, contests.as_slice(), &s)?;
             Ok(whole)
@@ -114,11 +116,17 @@ fn guessed(alloc: Global, state: &Partial) -> Result<Option<Misassignment>, Allo
     }
 }
 
-/// A misassignment that evades what is decided, if one is guessed.
-pub(crate) fn guess(alloc: Global, state: &Partial) -> Result<Option<Reason>, AllocError>
+/// A misassignment that evades what is decided, if one is guessed by an attack of at most `budget`
+/// nodes.
+pub(crate) fn guess(
+    alloc: Global,
+    state: &Partial,
+    budget: u64,
+) -> Result<Option<Reason>, AllocError>
+    requires { 1 ≤ budget }
     ensures { (r : Reason) → result ≡ Ok (Some r) → refutes state.now r ≡ true }
 {
-    let Some(s) = guessed(alloc, state)? else {
+    let Some(s) = guessed(alloc, state, budget)? else {
         return Ok(None);
     };
     let reason = Reason::Evade(s);
