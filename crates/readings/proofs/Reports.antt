@@ -45,5 +45,5 @@ pub are_report : (contests : List Contest) (deck : List (List Bool)) (s totals :
 are_report contests deck s totals long each =
     let size = report_long contests deck s in
     ext_get_or 0 (report contests deck s) totals (size ∙ sym long) (λ u lt.
-      let within : u < target_count contests = omega (arith, lt, size) in
-      report_at contests deck s u within ∙ each u within)
+    let within : u < target_count contests = omega (arith, lt, size) in
+    report_at contests deck s u within ∙ each u within)
