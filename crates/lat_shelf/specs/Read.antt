@@ -1,5 +1,5 @@
--- Reading a file whole.
-use Rattle.std.specs.Prelude.{◌≡◌, ◌<◌, ◌++◌, ℕ, List, length, Option, Some, None, IfSome, ⊤}
+-- Reading a file to its end.
+use Rattle.std.specs.Prelude.{◌≡◌, ◌<◌, ◌≤◌, ◌++◌, ℕ, List, length, Option, Some, None, IfSome, ⊤}
 use Rattle.std.specs.FinMap.{get}
 use Rattle.lat_shelf.specs.Shelf.{Files}
 
@@ -17,3 +17,15 @@ abbrev pub ReadSoFar : Option Files → List ℕ → List ℕ → Option (List �
 ReadSoFar None name bytes left = ⊤
 ReadSoFar (Some files) name bytes None = ⊤
 ReadSoFar (Some files) name bytes (Some rest) = get files name ≡ Some (bytes ++ rest)
+
+-- some bytes, in one order, were taken in behind those for which it stood before
+pub record TookIn (stood stands : List ℕ → Type 0) (bytes : List ℕ) : Type 0 where
+  pub behind : (front : List ℕ) → stood front → stands (front ++ bytes)
+
+-- the bytes of the named file, of which there are no more than the limit, were taken in
+pub record TookFile (files : Option Files) (name : List ℕ) (limit : ℕ)
+    (stood stands : List ℕ → Type 0) : Type 0 where
+  pub bytes : List ℕ
+  pub is_file : IsFile files name bytes
+  pub few : length bytes ≤ limit
+  pub took : TookIn stood stands bytes

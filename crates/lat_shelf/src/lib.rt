@@ -7,6 +7,7 @@ mod kind;
 mod memory;
 mod memory_sink;
 mod output;
+mod pieces;
 mod read;
 mod schedule;
 mod shelf;
@@ -19,7 +20,8 @@ pub use kind::Kind;
 pub use memory::MemoryShelf;
 pub use memory_sink::MemorySink;
 pub use output::OutSink;
-pub use read::{ReadFail, read_whole};
+pub use pieces::Pieces;
+pub use read::{ReadFail, read_pieces, read_whole};
 pub use shelf::Shelf;
 pub use sink::Sink;
 
