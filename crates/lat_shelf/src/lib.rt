@@ -24,6 +24,3 @@ pub use pieces::Pieces;
 pub use read::{ReadFail, read_pieces, read_whole};
 pub use shelf::Shelf;
 pub use sink::Sink;
-
-#[cfg(test)]
-mod tests;

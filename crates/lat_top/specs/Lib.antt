@@ -16,6 +16,7 @@ pub mod PlanJob
 pub mod VerifyJob
 pub mod CertFile
 pub mod CheckJob
+pub mod CertPieces
 pub mod MatchJob
 pub mod JudgeJob
 pub mod County

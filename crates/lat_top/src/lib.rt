@@ -7,6 +7,7 @@ mod all_words;
 mod asked_style;
 mod attackable;
 mod cert_file;
+mod cert_pieces;
 mod check;
 mod check_words;
 mod command;

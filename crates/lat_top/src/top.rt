@@ -66,7 +66,8 @@ fn run_command<H: Shelf, K: Sink>(
 /// What a command may read, be refused for, answer and write is its job, in `specs/Jobs.antt`. The
 /// status is `Words` exactly where the words are no command in form; then, as after every other
 /// refusal, no file changes and nothing is given. Where files are told and no call fails, the files
-/// decide the status and all that is written, unless memory was wanting.
+/// decide whether it is refused, and else one answer for them is written whole, unless memory was
+/// wanting.
 pub fn run<H: Shelf, K: Sink>(alloc: Global, words: &[String], shelf: &mut H, out: &mut K) -> Status
     // The first fault in the words, exactly where they have one; then nothing is written.
     ensures words { let asked = asked_of (texts words.now) in

@@ -1,7 +1,7 @@
 use crate::printing::{print_bytes, push_hex};
 use anyhow::Result;
-use lat_shelf::{FileShelf, Kind, MemoryShelf, MemorySink, read_whole};
-use lat_top::run;
+use lat_shelf::{FileShelf, Kind, MemoryShelf, MemorySink, Shelf, read_whole};
+use lat_top::{Status, run};
 use std::alloc::{AllocError, Global};
 use std::fs::Files;
 
@@ -37,10 +37,23 @@ impl Bench {
         }
     }
 
-    // Runs a command; prints its words, the number and the line of its status, and what it gave.
+    // Runs a command over the files in memory.
     fn run<R: Print>(&mut self, rt: &R, line: &str) -> Result<()> {
         let words = words_of(self.alloc, line)?;
         let status = run(self.alloc, &words, &mut self.shelf, &mut self.out);
+        self.report(rt, line, status)
+    }
+
+    // Runs a command over the system's own files.
+    fn run_on_disk<R: Print + Files>(&mut self, rt: &R, line: &str) -> Result<()> {
+        let words = words_of(self.alloc, line)?;
+        let mut files = FileShelf::new(rt);
+        let status = run(self.alloc, &words, &mut files, &mut self.out);
+        self.report(rt, line, status)
+    }
+
+    // Prints a command's words, the number and the line of its status, and what it gave.
+    fn report<R: Print>(&mut self, rt: &R, line: &str, status: Status) -> Result<()> {
         let text = status.line(self.alloc)?;
         println!(rt; "$ {line}")?;
         print!(rt; "{}", status.code())?;
@@ -107,6 +120,16 @@ impl Bench {
         Ok(())
     }
 
+    // Puts the file that is being written among the system's own.
+    fn keep<R: Print + Files>(&mut self, rt: &R, name: &str) -> Result<()> {
+        let mut files = FileShelf::new(rt);
+        if files.put(name, &self.file).is_err() {
+            println!(rt; "{name}: not kept")?;
+        }
+        self.file.clear();
+        Ok(())
+    }
+
     // Lets call number n of a kind fail.
     fn fail(&mut self, kind: &str, number: &str) -> Result<()> {
         let n = number.parse::<u64>().unwrap_or(0);
@@ -155,6 +178,8 @@ impl Bench {
                 self.fail(kind, number)?;
             }
             "run" => self.run(rt, rest)?,
+            "keep" => self.keep(rt, rest)?,
+            "disk" => self.run_on_disk(rt, rest)?,
             "show" => self.show(rt, rest)?,
             "size" => self.size(rt, rest)?,
             "front" => {
