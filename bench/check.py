@@ -5,7 +5,7 @@ Called with a file that holds a certificate or an open file. It prints `holds`, 
 and number, or `no certificate`. It counts everything anew at each node, so it is for small trees.
 """
 import sys
-from itertools import combinations
+from itertools import combinations, islice
 
 
 class Refused(Exception):
@@ -244,9 +244,11 @@ class Decks:
         _, least, _, _ = self.style.rules
         limit, n = self.style.contests[c]
         most = self.voting(c)
-        lists = sum(sum(chosen) <= limit * most
-                    for chosen in combinations(range(least, most + 1), n))
-        return self.style.contests.count((limit, n)) > lists
+        alike = self.style.contests.count((limit, n))
+        found = (1 for chosen in combinations(range(least, most + 1), n)
+                 if sum(chosen) <= limit * most)
+        # No more than that many are counted: there can be far more lists than can be listed.
+        return alike > sum(islice(found, alike))
 
     def evades(self, s):
         style = self.style
