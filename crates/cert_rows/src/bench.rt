@@ -1,7 +1,8 @@
 use crate::answer::Answer;
 use crate::digits::{number_of, push_hex, push_number, split_word};
+use crate::pieces::{check_in_pieces, check_whole, part_word, verdict_words};
 use anyhow::Result;
-use cert_types::put_label;
+use cert_types::{CertFault, Checked, put_label};
 use close_rules::Label;
 use lat_shelf::{FileShelf, read_whole};
 use std::alloc::Global;
@@ -130,6 +131,59 @@ impl Bench {
         Ok(())
     }
 
+    // Prints the answer of the check of the bytes at hand in pieces of so many.
+    fn pieces<R: Print>(&self, rt: &R, size: u16) -> Result<()> {
+        let streamed = check_in_pieces(self.alloc, &self.bytes, size);
+        print!(rt; "{} bytes in pieces of {size}: ", self.bytes.len())?;
+        match streamed.checked {
+            Ok(Checked::Yes(verdict)) => {
+                let (words, ballots) = verdict_words(verdict);
+                print!(rt; "{words} {ballots}")?;
+            }
+            Ok(Checked::No(part, node)) => print!(rt; "false, {} {node}", part_word(part))?,
+            Err(CertFault::NotACertificate) => print!(rt; "no certificate")?,
+            Err(CertFault::Memory) => print!(rt; "memory")?,
+        }
+        print!(rt;
+            "{}",
+            if streamed.early {
+                ", before the end"
+            } else {
+                ""
+            }
+        )?;
+        println!(rt;
+            "{}",
+            if streamed.stays {
+                ""
+            } else {
+                ", and then otherwise"
+            }
+        )?;
+        Ok(())
+    }
+
+    // Prints for how many changes of one of the bytes at hand the whole check and that of single
+    // bytes give the same answer.
+    fn changes<R: Print>(&self, rt: &R) -> Result<()> {
+        let mut changed = Vec::from_slice(self.alloc, &self.bytes)?;
+        let mut alike: u64 = 0;
+        for i in 0..changed.len() {
+            let kept = changed[i];
+            for value in 0..=255 {
+                changed[i] = value;
+                let whole = check_whole(self.alloc, &changed);
+                let streamed = check_in_pieces(self.alloc, &changed, 1);
+                if value != kept && streamed.stays && whole == streamed.checked {
+                    alike = alike.saturating_add(1);
+                }
+            }
+            changed[i] = kept;
+        }
+        println!(rt; "{alike} changes of a byte are answered alike")?;
+        Ok(())
+    }
+
     /// Does what a line says (docs/ADDING.md tells the lines). A line of another kind is printed.
     pub fn step<R: Print + Files>(&mut self, rt: &R, line: &str) -> Result<()> {
         let (head, rest) = split_word(line);
@@ -143,6 +197,8 @@ impl Bench {
                 self.swap(rt, number_of(at), number_of(count), digits)?;
             }
             "prefixes" => self.prefixes(rt)?,
+            "pieces" => self.pieces(rt, number_of(rest))?,
+            "changes" => self.changes(rt)?,
             "mark" => {
                 let (j, t) = split_word(rest);
                 self.mark(rt, number_of(j), number_of(t))?;

@@ -1,10 +1,11 @@
-//! Reads bytes as a certificate, an open file and an evade file, as the lines of standard input
-//! say, and prints what each reading came to.
+//! Reads bytes as a certificate, an open file and an evade file, and checks them in pieces, as the
+//! lines of standard input say, and prints what each came to.
 #![tactic(auto)]
 
 mod answer;
 mod bench;
 mod digits;
+mod pieces;
 
 use anyhow::Result;
 use bench::Bench;

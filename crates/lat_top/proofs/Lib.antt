@@ -10,3 +10,4 @@ pub mod Says
 pub mod Counted
 pub mod Drawn
 pub mod AllEnds
+pub mod CertPieces

@@ -1,9 +1,0 @@
-use Rattle.lat_top.specs.Asked.{kept_check}
-use Rattle.lat_top.specs.CheckJob.{check_job}
-use Rattle.lat_top.proofs.Calls.{answers_err}
-use Rattle.lat_top.proofs.check.check.Goals as goal
-
-pub returns-in_err-cert : goal.returns-in_err-cert
-returns-in_err-cert g c =
-    answers_err (check_job (kept_check c.args.asked.now)) _ _ c.in_err-cert.field-0.0 _
-    c.from_residual.ensures.1 c.in_err-cert.ensures.reads
