@@ -131,11 +131,9 @@ impl Bench {
         Ok(())
     }
 
-    // Prints the answer of the check of the bytes at hand in pieces of so many.
-    fn pieces<R: Print>(&self, rt: &R, size: u16) -> Result<()> {
-        let streamed = check_in_pieces(self.alloc, &self.bytes, size);
-        print!(rt; "{} bytes in pieces of {size}: ", self.bytes.len())?;
-        match streamed.checked {
+    // Prints an answer of the check of the bytes at hand.
+    fn print_answer<R: Print>(&self, rt: &R, checked: Result<Checked, CertFault>) -> Result<()> {
+        match checked {
             Ok(Checked::Yes(verdict)) => {
                 let (words, ballots) = verdict_words(verdict);
                 print!(rt; "{words} {ballots}")?;
@@ -144,6 +142,22 @@ impl Bench {
             Err(CertFault::NotACertificate) => print!(rt; "no certificate")?,
             Err(CertFault::Memory) => print!(rt; "memory")?,
         }
+        Ok(())
+    }
+
+    // Prints the answer of the check of the bytes at hand as a whole.
+    fn whole<R: Print>(&self, rt: &R) -> Result<()> {
+        print!(rt; "{} bytes whole: ", self.bytes.len())?;
+        self.print_answer(rt, check_whole(self.alloc, &self.bytes))?;
+        println!(rt; "")?;
+        Ok(())
+    }
+
+    // Prints the answer of the check of the bytes at hand in pieces of so many.
+    fn pieces<R: Print>(&self, rt: &R, size: u16) -> Result<()> {
+        let streamed = check_in_pieces(self.alloc, &self.bytes, size);
+        print!(rt; "{} bytes in pieces of {size}: ", self.bytes.len())?;
+        self.print_answer(rt, streamed.checked)?;
         print!(rt;
             "{}",
             if streamed.early {
@@ -197,6 +211,7 @@ impl Bench {
                 self.swap(rt, number_of(at), number_of(count), digits)?;
             }
             "prefixes" => self.prefixes(rt)?,
+            "whole" => self.whole(rt)?,
             "pieces" => self.pieces(rt, number_of(rest))?,
             "changes" => self.changes(rt)?,
             "mark" => {
