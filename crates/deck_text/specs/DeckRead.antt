@@ -11,7 +11,7 @@ use Rattle.deck_text.specs.declared.fault.CsvFault.{CsvFault}
 use Rattle.deck_text.specs.declared.fault.CsvFault.TheVariants.{NotCsv, BadNumber, UnknownTarget, Repeated}
 use Rattle.deck_text.specs.declared.mark.Mark.{Mark}
 use Rattle.deck_text.specs.declared.mark.Mark.TheVariants as mark
-use Rattle.deck_text.specs.Faults.{◌>>=◌, or_fault}
+use Rattle.lat_base.specs.FirstFault.{◌>>=◌, or_fault}
 use Rattle.deck_text.specs.Rows.{field_of, after_header}
 use Rattle.deck_text.specs.TargetNames.{FullName, target_names, target_called}
 

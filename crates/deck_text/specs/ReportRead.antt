@@ -7,7 +7,7 @@ use Rattle.lat_base.specs.Shape.{target_count}
 use Rattle.numerals.specs.Numerals.{number_of}
 use Rattle.deck_text.specs.declared.fault.CsvFault.{CsvFault}
 use Rattle.deck_text.specs.declared.fault.CsvFault.TheVariants.{NotCsv, BadNumber, UnknownTarget, Repeated, Missing}
-use Rattle.deck_text.specs.Faults.{◌>>=◌, or_fault}
+use Rattle.lat_base.specs.FirstFault.{◌>>=◌, or_fault}
 use Rattle.deck_text.specs.Rows.{field_of, after_header}
 use Rattle.deck_text.specs.TargetNames.{FullName, target_names, target_called}
 

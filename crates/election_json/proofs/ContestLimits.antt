@@ -7,7 +7,7 @@ use Rattle.lat_base.specs.Names.{has_twice}
 use Rattle.lat_base.proofs.NamesFacts.{twice_more}
 use Rattle.election_json.specs.declared.place.Place.TheVariants as at
 use Rattle.election_json.specs.declared.contest_entry.ContestEntry.{ContestEntry}
-use Rattle.election_json.specs.Fault.{◌>>=◌}
+use Rattle.lat_base.specs.FirstFault.{◌>>=◌}
 use Rattle.election_json.specs.Member.{member, object, number, array, new_id}
 use Rattle.election_json.specs.Entry.{each}
 use Rattle.election_json.specs.Contests.{ids_of, target_entry, contest_entry, next_contest}

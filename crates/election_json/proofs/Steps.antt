@@ -10,7 +10,7 @@ use Rattle.serde_json.specs.Find.{as_number, as_u64}
 use Rattle.election_json.specs.declared.place.Place.{Place}
 use Rattle.election_json.specs.declared.fault.DefFault.{DefFault}
 use Rattle.election_json.specs.declared.fault.DefFault.TheVariants.{Repeated, OutOfRange, WrongKind}
-use Rattle.election_json.specs.Fault.{◌>>=◌, or_fault}
+use Rattle.lat_base.specs.FirstFault.{◌>>=◌, or_fault}
 use Rattle.election_json.specs.Member.{is_outside, number, values, array, id_text, new_id}
 use Rattle.election_json.specs.Entry.{each_from}
 

@@ -19,7 +19,7 @@ use Rattle.election_json.specs.declared.place.Place.TheVariants as at
 use Rattle.election_json.specs.declared.fault.DefFault.{DefFault}
 use Rattle.election_json.specs.declared.fault.DefFault.TheVariants.{Repeated, UnknownContest, TooManyTargets}
 use Rattle.election_json.specs.declared.contest_entry.ContestEntry.{ContestEntry}
-use Rattle.election_json.specs.Fault.{◌>>=◌, or_fault}
+use Rattle.lat_base.specs.FirstFault.{◌>>=◌, or_fault}
 use Rattle.election_json.specs.Member.{member, object, array, id_text, new_id}
 use Rattle.election_json.specs.Entry.{each}
 use Rattle.election_json.specs.Contests.{ids_of}

@@ -5,7 +5,7 @@ use Rattle.serde_json.specs.Data.{Data}
 use Rattle.election_json.specs.declared.place.Place.TheVariants as at
 use Rattle.election_json.specs.declared.fault.DefFault.{DefFault}
 use Rattle.election_json.specs.declared.contest_entry.ContestEntry.{ContestEntry}
-use Rattle.election_json.specs.Fault.{◌>>=◌}
+use Rattle.lat_base.specs.FirstFault.{◌>>=◌}
 use Rattle.election_json.specs.Member.{member, object, number, array, new_id}
 use Rattle.election_json.specs.Entry.{each}
 
@@ -23,7 +23,8 @@ contest_entry earlier i value = do
   contest ← object (at.Contest i) value
   id ← member (codes "id") (at.ContestId i) contest >>= new_id earlier (at.ContestId i)
   limit ← member (codes "limit") (at.Limit i) contest >>= number 1 MOST_VOTES (at.Limit i)
-  values ← member (codes "targets") (at.Targets i) contest >>= array 1 MOST_IN_CONTEST (at.Targets i)
+  given ← member (codes "targets") (at.Targets i) contest
+  values ← array 1 MOST_IN_CONTEST (at.Targets i) given
   targets ← each (target_entry i) values
   Ok (record { id = id; limit = limit; targets = targets })
 

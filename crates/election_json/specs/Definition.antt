@@ -8,7 +8,7 @@ use Rattle.lat_base.specs.Rules.{RuleSet, IsRuleSet}
 use Rattle.election_json.specs.declared.place.Place.TheVariants as at
 use Rattle.election_json.specs.declared.fault.DefFault.{DefFault}
 use Rattle.election_json.specs.declared.fault.DefFault.TheVariants.{NotJson}
-use Rattle.election_json.specs.Fault.{◌>>=◌, or_fault}
+use Rattle.lat_base.specs.FirstFault.{◌>>=◌, or_fault}
 use Rattle.election_json.specs.Member.{object}
 use Rattle.election_json.specs.Rules.{rules_of}
 use Rattle.election_json.specs.Contests.{contests_of}

@@ -2,7 +2,7 @@
 use Rattle.std.specs.Prelude.{ℕ, ◌+◌, List, [], ◌∷◌, ◌++◌, Result, Ok}
 use Rattle.serde_json.specs.Data.{Data}
 use Rattle.election_json.specs.declared.fault.DefFault.{DefFault}
-use Rattle.election_json.specs.Fault.{◌>>=◌}
+use Rattle.lat_base.specs.FirstFault.{◌>>=◌}
 
 -- the values from number i on are read in order, each with its number and what the earlier ones
 -- gave

@@ -10,7 +10,7 @@ use Rattle.lat_base.specs.Id.{is_id}
 use Rattle.election_json.specs.declared.place.Place.{Place}
 use Rattle.election_json.specs.declared.fault.DefFault.{DefFault}
 use Rattle.election_json.specs.declared.fault.DefFault.TheVariants.{Missing, WrongKind, BadId, Repeated, OutOfRange}
-use Rattle.election_json.specs.Fault.{◌>>=◌, or_fault}
+use Rattle.lat_base.specs.FirstFault.{◌>>=◌, or_fault}
 
 -- the member of that name, which must be there
 abbrev pub member : List ℕ → Place → Data → Result Data DefFault

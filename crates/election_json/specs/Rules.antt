@@ -5,7 +5,7 @@ use Rattle.serde_json.specs.Data.{Data}
 use Rattle.lat_base.specs.Rules.{RuleSet}
 use Rattle.election_json.specs.declared.place.Place.TheVariants as at
 use Rattle.election_json.specs.declared.fault.DefFault.{DefFault}
-use Rattle.election_json.specs.Fault.{◌>>=◌}
+use Rattle.lat_base.specs.FirstFault.{◌>>=◌}
 use Rattle.election_json.specs.Member.{member, object, boolean, number}
 
 -- the member `rules` of a definition: `distinct`, `least`, `blank` and `over`, in this order

@@ -13,7 +13,7 @@ use Rattle.election_json.specs.declared.place.Place.TheVariants as at
 use Rattle.election_json.specs.declared.fault.DefFault.{DefFault}
 use Rattle.election_json.specs.declared.fault.DefFault.TheVariants.{Repeated, UnknownContest, TooManyTargets}
 use Rattle.election_json.specs.declared.contest_entry.ContestEntry.{ContestEntry}
-use Rattle.election_json.specs.Fault.{◌>>=◌, or_fault}
+use Rattle.lat_base.specs.FirstFault.{◌>>=◌, or_fault}
 use Rattle.election_json.specs.Member.{member, object, array, id_text, new_id}
 use Rattle.election_json.specs.Entry.{each}
 use Rattle.election_json.specs.Contests.{ids_of}
@@ -69,7 +69,8 @@ unfoldable pub style_entry : List ContestEntry → List (List ℕ) → ℕ → D
 style_entry contests earlier i value = do
   style ← object (at.Style i) value
   id ← member (codes "id") (at.StyleId i) style >>= new_id earlier (at.StyleId i)
-  values ← member (codes "contests") (at.StyleContests i) style >>= array 1 MOST_CONTESTS (at.StyleContests i)
+  given ← member (codes "contests") (at.StyleContests i) style
+  values ← array 1 MOST_CONTESTS (at.StyleContests i) given
   chosen ← each (next_chosen contests i) values
   of_few_targets (at.Style i) (style_with id chosen)
 

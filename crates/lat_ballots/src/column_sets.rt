@@ -41,8 +41,8 @@ fn column(deck: &Deck, t: u16) -> [u64; 16]
     set
 }
 
-/// The columns of a deck: for each target the set of the ballots that mark it, ballot j as bit j % 64
-/// of word j / 64. The only error is want of memory.
+/// The columns of a deck: for each target the set of the ballots that mark it, ballot j as bit
+/// j % 64 of word j / 64. The only error is want of memory.
 #[tactic(auto, using(crate::proofs::AllColumns::columns_more, crate::proofs::AllColumns::no_columns))]
 pub fn columns(alloc: Global, deck: &Deck) -> Result<Vec<[u64; 16]>, AllocError>
     ensures { IfOk result (λ columns. AreColumns deck.now.targets columns.items deck.now.ballots) }

@@ -1,3 +1,4 @@
+pub mod FirstFault
 pub mod Shape
 pub mod ShapeFault
 pub mod Misassignment

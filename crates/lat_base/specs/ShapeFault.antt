@@ -24,5 +24,6 @@ shape_fault contests =
     if length contests == 0 then Some Empty
     else if nat_lt MOST_CONTESTS (length contests) then Some (TooManyContests (length contests))
     else if is_some (contest_fault 0 contests) then contest_fault 0 contests
-    else if nat_lt MOST_TARGETS (target_count contests) then Some (TooManyTargets (target_count contests))
+    else if nat_lt MOST_TARGETS (target_count contests)
+    then Some (TooManyTargets (target_count contests))
     else None
