@@ -7,8 +7,9 @@
 # Beside it stands a plain attack in Rust (plain-attack/main.rs) that this script builds with rustc: the
 # same order and the same tests, so the same nodes. For each deck, and for the same deck 34 times over, the
 # script prints the microseconds a node of both: of `verify` the whole process, of the plain one the attack
-# alone. With valgrind it prints the instructions a node too. Last come `verify` of a deck of 256 targets in
-# 64 contests, and of 1,024 ballots that each mark 256 targets, which is mostly reading. Builds no crate.
+# alone. With valgrind it prints the instructions a node too. A deck of 100 targets and 30 ballots, cut from
+# the last one, is compared as well. Last come `verify` of a deck of 256 targets in 64 contests, and of 1,024
+# ballots that each mark 256 targets, which is mostly reading. Builds no crate.
 cd "$(dirname "$0")/data" || exit 1
 program=../../crates/lat/out/lat
 if [ ! -x "$program" ]; then
@@ -105,6 +106,9 @@ m05 m05-a 1000
 m18 m18-a 10000
 m33 m33-a 100000
 DECKS
+
+python3 ../cut.py m33-a.json m33 m33-a.deck.csv 100 30 "$scratch/cut"
+compare "100 targets, 30 ballots" m33 "$scratch/cut.json" "$scratch/cut.deck.csv" 100000
 
 echo "256 targets in 64 contests: $(best "$program" verify t256.json t256 t256.deck.csv 100000) seconds"
 awk 'BEGIN { print "ballot,contest,target"

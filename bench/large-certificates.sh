@@ -1,7 +1,8 @@
 #!/usr/bin/env bash
 # Measures the check of a certificate of 60,000,000 bytes: by the built program, which takes it in pieces, and
 # by the built program of the crate cert_rows, whole and in pieces of 4,096 bytes. It prints the answers with
-# the seconds and the peak memory, and fails where an answer isn't the known one. Builds no crate.
+# the seconds of the best of three runs and the peak memory, and fails where an answer isn't the known one.
+# Builds no crate.
 #
 # The certificate says that no deck of at most 7 ballots is good for 256 targets, which holds at once, since
 # there are only 2^7 columns; its tree forks on marks all the same, 6,000,000 leaves in all.
@@ -44,13 +45,17 @@ with open("large.cert", "wb") as file:
     file.write(b"LATCERT1" + head + bytes.fromhex("02 0007") + contests + tree(6_000_000, 0))
 PYTHON
 
-# What a command prints last, the seconds and the peak memory; it must end with the wanted words.
+# What a command prints last, the seconds of the best of three runs, and the peak memory; it must end with
+# the wanted words.
 measure() { # WANTED COMMAND..
     local wanted=$1 said
     shift
-    said=$(/usr/bin/time -f "%e seconds, %M kilobytes at most" -o took "$@" 2>&1 | tail -1)
-    echo "  $said, $(tail -1 took)"
-    [ "${said%"$wanted"}" != "$said" ] || failed=1
+    : >took
+    for _ in 1 2 3; do
+        said=$(/usr/bin/time -a -f "%e seconds, %M kilobytes at most" -o took "$@" 2>&1 | tail -1)
+        [ "${said%"$wanted"}" != "$said" ] || failed=1
+    done
+    echo "  $said, $(grep seconds took | sort -n | head -1)"
 }
 
 echo "$(wc -c <large.cert) bytes"

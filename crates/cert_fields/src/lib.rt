@@ -28,7 +28,7 @@ pub use nodes::{kids_of, node_of};
 pub use numbers::{put_one, put_two, put_u8, put_u16, two_of, u8_of, u16_of};
 pub use part_list::{part_list_of, put_contests, take_contests};
 pub use reasons::{put_reason, take_reason};
-pub use row_reader::{rows_of, take_rows};
+pub use row_reader::{row_of, rows_of, take_rows};
 pub use row_writer::put_rows;
 pub use spelt::Spelt;
 pub use texts::{put_text, take_text, text_of};

@@ -1,5 +1,5 @@
 -- What a certificate claims that holds.
-use Rattle.std.proofs.Common.{◌≡◌, ℕ, ◌≤◌, Bool, false, List, length, replicate, Option, Some, None, inl, refl, arith}
+use Rattle.std.proofs.Common.{◌≡◌, ℕ, ◌≤◌, Bool, List, length, Option, Some, None, inl, refl}
 use Rattle.std.specs.Prelude.{IfSome}
 use Rattle.std.proofs.lemmas.List.{length-replicate}
 use Rattle.std.proofs.lemmas.List.Elements.{All-from_recursion}
@@ -11,8 +11,7 @@ use Rattle.lat_base.specs.Rules.{RuleSet}
 use Rattle.lat_base.specs.Shape.{IsShape, target_count}
 use Rattle.lat_misassign.proofs.Identity.{identity_is}
 use Rattle.readings.proofs.Reports.{report_long}
-use Rattle.evade_space.specs.PartialMisassignment.{PartialMisassignment}
-use Rattle.evade_space.specs.Sought.{Sought, own_sought, start}
+use Rattle.evade_space.specs.Sought.{own_sought, start}
 use Rattle.evade_space.specs.Steps.{evade_steps, IsEvadeState, IsSolution}
 use Rattle.evade_space.proofs.Laws.{kid_is_own, skipped_has_none, kids_share}
 use Rattle.evade_space.proofs.Start.{start_partly}

@@ -1,18 +1,14 @@
 -- What is answered at the end, what is refused, and pieces.
-use Rattle.std.proofs.Common.{◌≡◌, ◌≤◌, ◌+◌, ◌-◌, ◌<◌, ℕ, zero, suc, Bool, not, true, false, nat_lt, cond, eqb, ltb, List, [], ◌∷◌, ◌++◌, length, drop, Option, Some, None, Err, refl, sym, ap, subst, ◌∙◌, append_assoc, arith, length-append}
-use Rattle.std.specs.Prelude.{◌==◌, option_map}
+use Rattle.std.proofs.Common.{◌≡◌, ◌≤◌, ◌-◌, ◌<◌, ℕ, zero, suc, Bool, true, false, cond, eqb, List, [], ◌++◌, length, take, drop, Option, Some, None, Err, refl, sym, ap, ◌∙◌, append_assoc, arith, length-append}
+use Rattle.std.specs.Prelude.{◌==◌}
 use Rattle.std.proofs.lemmas.Bool.{ltb-false, eqb-true}
 use Rattle.std.proofs.lemmas.List.{drop_at}
-use Rattle.std.proofs.lemmas.Option.{none-some}
 use Rattle.lat_base.specs.Shape.{target_count}
-use Rattle.cert_fields.specs.declared.fault.CertFault.{CertFault}
 use Rattle.cert_fields.specs.declared.fault.CertFault.TheVariants.{NotACertificate}
-use Rattle.cert_types.specs.declared.checked.Checked.{Checked}
-use Rattle.cert_types.specs.declared.checked.Checked.TheVariants.{Yes, No}
+use Rattle.cert_types.specs.declared.checked.Checked.TheVariants.{Yes}
 use Rattle.cert_types.specs.declared.part.Part.{Part}
 use Rattle.cert_types.specs.declared.proved.Proved.{Proved}
 use Rattle.cert_types.specs.declared.verdict.Verdict.{Verdict}
-use Rattle.cert_types.specs.CertValue.{CertValue}
 use Rattle.cert_types.specs.LowerPart.{LowerPart}
 use Rattle.cert_check.specs.Answers.{ArePartsAnswer}
 use Rattle.cert_check.specs.Checked.{IsChecked}
@@ -24,10 +20,10 @@ use Rattle.cert_stream.specs.declared.front.Front.{Front}
 use Rattle.cert_stream.specs.declared.head.Head as heads
 use Rattle.cert_stream.specs.declared.phase.Phase.{Phase}
 use Rattle.cert_stream.specs.declared.phase.Phase.TheVariants.{Start, Rows, Robust, Contests, Lower, Done}
-use Rattle.cert_stream.specs.Answer.{checked_of, IsHeadOf, IsAnswer, IsNone, IsNoFront}
+use Rattle.cert_stream.specs.Answer.{checked_of, IsAnswer, IsNone}
 use Rattle.cert_stream.specs.Left.{Parts, whole_at, end_left, lower_left, lower_tree_left, robust_left, rows_left}
 use Rattle.cert_stream.specs.Phases.{head_of, most_of, waits}
-use Rattle.cert_stream.specs.Stands.{Reads, StandsAt, Refuses, Moves, IsTail}
+use Rattle.cert_stream.specs.Stands.{StandsAt, Refuses, IsTail}
 use Rattle.cert_stream.proofs.Claims.{claim_is_true}
 use Rattle.cert_stream.proofs.Settled.{reads_piece, reads_held}
 
@@ -41,7 +37,7 @@ none_is bytes e cert is spelled = cert_refused (λ (x : CertParts). x) (Err NotA
 pub stands_piece : (phase : Phase) (held all piece : List ℕ) → StandsAt phase held all
     → StandsAt phase (held ++ piece) (all ++ piece)
 stands_piece Start held all piece s = reads_piece all held piece whole_at s
-stands_piece (Rows front k) held all piece s = (s.0, reads_piece all held piece (rows_left (head_of front) front.verdict k) s.1)
+stands_piece (Rows front deck j) held all piece s = (s.0, reads_piece all held piece (rows_left (head_of front) front.verdict (take j deck.ballots) (length deck.ballots - j)) s.1)
 stands_piece (Robust front wanted check) held all piece s = (s.0, s.1, s.2, s.3, s.4, s.5, reads_piece all held piece (robust_left (head_of front) front.verdict s.0 s.1 wanted) s.6)
 stands_piece (Contests front size fault) held all piece s = (s.0, s.1, s.2, reads_piece all held piece (lower_left (head_of front) front.verdict s.0 size) s.3)
 stands_piece (Lower front wanted check) held all piece s = (s.0, s.1, s.2, s.3, s.4, s.5, s.6, s.7, s.8, reads_piece all held piece (lower_tree_left (head_of front) front.verdict s.0 s.1 s.2 s.3 wanted) s.9)
@@ -72,7 +68,7 @@ late front fault held some all s = (
 pub not_waiting : (phase : Phase) (there : ℕ) → waits phase there false ≡ false
     → most_of phase ≤ there
 not_waiting Start there e = ltb-false _ _ e
-not_waiting (Rows front k) there e = ltb-false _ _ e
+not_waiting (Rows front deck j) there e = ltb-false _ _ e
 not_waiting (Robust front wanted check) there e = ltb-false _ _ e
 not_waiting (Contests front size fault) there e = ltb-false _ _ e
 not_waiting (Lower front wanted check) there e = ltb-false _ _ e
@@ -81,7 +77,7 @@ not_waiting (Done front fault) there e = omega arith
 pub not_ended : (phase : Phase) (there : ℕ) (ending : Bool) → waits phase there ending ≡ false
     → waits phase there true ≡ false
 not_ended Start there ending e = refl
-not_ended (Rows front k) there ending e = refl
+not_ended (Rows front deck j) there ending e = refl
 not_ended (Robust front wanted check) there ending e = refl
 not_ended (Contests front size fault) there ending e = refl
 not_ended (Lower front wanted check) there ending e = refl
@@ -96,7 +92,7 @@ some_left (suc n) e = omega arith
 pub ends_done : (phase : Phase) (there : ℕ) → waits phase there true ≡ true
     → (front : Front) × (fault : Option (Part × ℕ)) × (phase ≡ Done front fault) × (there ≡ 0)
 ends_done Start there e = absurd (cc)
-ends_done (Rows front k) there e = absurd (cc)
+ends_done (Rows front deck j) there e = absurd (cc)
 ends_done (Robust front wanted check) there e = absurd (cc)
 ends_done (Contests front size fault) there e = absurd (cc)
 ends_done (Lower front wanted check) there e = absurd (cc)

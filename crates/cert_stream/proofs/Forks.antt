@@ -1,5 +1,5 @@
 -- A way stands over a stack of Forks that grows and is cut.
-use Rattle.std.proofs.Common.{◌≡◌, ℕ, zero, suc, ◌+◌, ◌≤◌, ◌<◌, Bool, true, false, List, [], ◌∷◌, ◌++◌, length, take, map, reverse, Some, None, refl, ap, sym, ◌∙◌, subst, arith, drop, length-append}
+use Rattle.std.proofs.Common.{◌≡◌, ℕ, zero, suc, ◌+◌, ◌≤◌, ◌<◌, Bool, true, false, List, [], ◌∷◌, ◌++◌, length, take, reverse, Some, refl, ap, sym, ◌∙◌, subst, arith, drop, length-append}
 use Rattle.std.proofs.lemmas.List.{reverse-append, length-take, length-map}
 use Rattle.std.specs.Prelude.{slice_get}
 use Rattle.std.specs.List.{range_with_len, AllByRecursion}
@@ -8,8 +8,7 @@ use Rattle.tree_core.specs.declared.node.Node.TheVariants.{Close, Fork, Open}
 use Rattle.tree_core.specs.declared.walk.Entry.{Entry}
 use Rattle.tree_core.specs.Steps.{Steps}
 use Rattle.tree_core.specs.Checks.{NodeHolds}
-use Rattle.tree_core.specs.Walk.{Entered, Stands, Lands, places_of}
-use Rattle.cert_stream.specs.Walks.{IsStack, ComesTo}
+use Rattle.tree_core.specs.Walk.{Stands, Lands, places_of}
 
 pub get-push : {A : Type 0} (xs : List A) (y : A) (zs : List A) (i : ℕ) → slice_get xs i ≡ Some y
     → slice_get (xs ++ zs) i ≡ Some y

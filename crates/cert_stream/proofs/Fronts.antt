@@ -1,9 +1,8 @@
 -- The front of a certificate is read exactly, and the rest behind it.
-use Rattle.std.proofs.Common.{◌≡◌, ℕ, zero, suc, ◌+◌, ◌≤◌, Bool, true, false, cond, eqb, List, [], ◌∷◌, ◌++◌, length, take, drop, Option, Some, None, refl, sym, ap, subst, ◌∙◌, append_assoc, arith, length-append}
+use Rattle.std.proofs.Common.{◌≡◌, ℕ, ◌≤◌, Bool, true, false, cond, eqb, List, [], ◌∷◌, ◌++◌, length, take, drop, Option, Some, None, refl, sym, ap, subst, ◌∙◌, append_assoc, arith, length-append}
 use Rattle.std.specs.Str.{bytes_eq}
 use Rattle.std.proofs.lemmas.List.{take_at, drop_at, take-append-drop}
-use Rattle.std.proofs.lemmas.Option.{none-some, same_Some}
-use Rattle.lat_base.specs.declared.contest.Contest.{Contest}
+use Rattle.std.proofs.lemmas.Option.{same_Some}
 use Rattle.lat_base.specs.Shape.{target_count}
 use Rattle.lat_ballots.specs.Deck.{Ballots}
 use Rattle.close_rules.specs.declared.label.Label.{Label}
@@ -16,7 +15,7 @@ use Rattle.cert_fields.specs.Reading.{◌>>=◌, Reader, u8_at, u16_at, pair_at,
 use Rattle.cert_fields.specs.PartList.{part_at}
 use Rattle.cert_fields.specs.Rows.{rows_at}
 use Rattle.cert_fields.specs.Spelling.{u16_text}
-use Rattle.cert_fields.specs.TreeReading.{tree_at, skipped_at, label_at, reason_at}
+use Rattle.cert_fields.specs.TreeReading.{tree_at}
 use Rattle.cert_fields.proofs.Exact.{step, AnyOf, u16_exact, tested_exact, pair_exact}
 use Rattle.cert_fields.proofs.Fields.{tagged_exact}
 use Rattle.cert_fields.proofs.Heads.{head_exact, guard_then, is_same, is_true}
@@ -28,9 +27,9 @@ use Rattle.cert_types.specs.Fitting.{IsVerdict, lower_size}
 use Rattle.cert_types.specs.LowerPart.{LowerPart}
 use Rattle.cert_format.specs.Fields.{verdict_text}
 use Rattle.cert_format.specs.Files.{cert_magic}
-use Rattle.cert_format.specs.Reading.{in_limits, limited_at, magic_at, verdict_by, verdict_at, CertBody, cert_body_at, deck_part_at, best_at, best_by, sized_at, proved_at, attacked_at, lower_part_at, lower_at, cert_parts_at, file_at}
+use Rattle.cert_format.specs.Reading.{in_limits, limited_at, magic_at, verdict_by, verdict_at, CertBody, cert_body_at, deck_part_at, best_at, best_by, sized_at, proved_at, lower_part_at, lower_at, cert_parts_at, file_at}
 use Rattle.cert_format.proofs.Bodies.{Limited, limits, within}
-use Rattle.cert_stream.specs.Left.{Parts, whole_at, flagged_by, ballots_at, front_at, end_left, trees_at, deck_node_at, evade_node_at, lower_tree_left, lower_left, lower_part_left, robust_left, rows_left, deck_left}
+use Rattle.cert_stream.specs.Left.{Parts, whole_at, flagged_by, ballots_at, front_at, end_left, trees_at, deck_node_at, evade_node_at, lower_tree_left, lower_part_left, robust_left, rows_left, deck_left}
 use Rattle.cert_stream.proofs.Settled.{Settles, settles}
 use Rattle.cert_stream.proofs.Sizes.{head_size}
 
@@ -204,7 +203,7 @@ module _ (head : Head) (verdict : Verdict) where
 
   proved_is : (k : ℕ) (bytes : List ℕ)
       → deck_then (made_at Some (proved_at (target_count head.contests) k) bytes)
-      ≡ rows_left head verdict k bytes
+      ≡ rows_left head verdict [] k bytes
   unfolding proved_at tree_at
   proved_is k bytes = by_rows (rows_at (target_count head.contests) k bytes)
     where

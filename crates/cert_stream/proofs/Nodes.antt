@@ -1,14 +1,11 @@
 -- Nodes and trees, read one node at a time.
 use Rattle.std.proofs.Common.{◌≡◌, ℕ, zero, suc, ◌+◌, ◌-◌, ◌<◌, ◌≤◌, List, [], ◌∷◌, ◌++◌, length, Option, Some, None, refl, sym, ap, ◌∙◌, append_assoc, arith}
 use Rattle.std.proofs.lemmas.List.{append-nil}
-use Rattle.close_rules.specs.declared.label.Label.{Label}
-use Rattle.close_rules.specs.declared.reason.Reason.{Reason}
-use Rattle.evade_space.specs.declared.skipped.Skipped.{Skipped}
 use Rattle.tree_core.specs.declared.node.Node.{Node}
 use Rattle.cert_fields.specs.Reading.{◌>>=◌, Reader, u16_at}
 use Rattle.cert_fields.specs.Spelling.{u16_text}
 use Rattle.cert_fields.specs.Trees.{AnyLabel, AnyImage, AnySkipped, IsReason, IsNode, label_text, reason_text, skipped_text, node_text}
-use Rattle.cert_fields.specs.TreeReading.{node_at, nodes_at, kids_of, wanted_after, label_at, reason_at, skipped_at}
+use Rattle.cert_fields.specs.TreeReading.{nodes_at, kids_of, wanted_after, label_at, reason_at, skipped_at}
 use Rattle.cert_fields.proofs.Exact.{u16_exact}
 use Rattle.cert_fields.proofs.Fields.{label_exact, reason_exact, skipped_exact}
 use Rattle.cert_fields.proofs.TreeBytes.{node_exact, node_shorter}

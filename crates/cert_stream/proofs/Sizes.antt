@@ -1,5 +1,5 @@
 -- How many bytes the fields of a certificate take at most.
-use Rattle.std.proofs.Common.{◌≡◌, ℕ, zero, suc, ◌+◌, ◌*◌, ◌/◌, ◌≤◌, Bool, true, cond, ◌&&◌, nat_le, List, [], ◌∷◌, ◌++◌, length, refl, ap, sym, ◌∙◌, arith, length-append}
+use Rattle.std.proofs.Common.{◌≡◌, ℕ, ◌+◌, ◌*◌, ◌<◌, ◌≤◌, Bool, ◌&&◌, nat_le, List, [], ◌∷◌, ◌++◌, length, refl, ap, arith, length-append}
 use Rattle.std.specs.List.{flat_map, AllByRecursion, list_all}
 use Rattle.std.proofs.lemmas.Bool.{and_parts, leb-true}
 use Rattle.std.proofs.lemmas.List.Concat.{flat_map-cons}
@@ -17,7 +17,7 @@ use Rattle.tree_core.specs.declared.node.Node.{Node}
 use Rattle.tree_core.specs.declared.node.Node.TheVariants.{Close, Fork, Open}
 use Rattle.cert_fields.specs.Head.{Head, contest_text, contests_text, rules_text, head_text, IsNamed, AreNamed, IsHead}
 use Rattle.cert_fields.specs.PartList.{part_text}
-use Rattle.cert_fields.specs.Rows.{row_size, row_text}
+use Rattle.cert_fields.specs.Rows.{row_text}
 use Rattle.cert_fields.specs.Spelling.{u16_text, id_text, IsText}
 use Rattle.cert_fields.specs.Trees.{AnyLabel, AnyImage, AnySkipped, IsReason, IsNode, label_text, reason_text, skipped_text, node_text}
 use Rattle.cert_fields.proofs.Marks.{row_long}
@@ -53,19 +53,16 @@ evade_node_size Open f = (omega arith, omega arith)
 evade_node_size (Close r) f = (omega arith, omega arith)
 evade_node_size (Fork l n) f = (omega arith, omega arith)
 
--- ---- contests and rows
+-- ---- contests and a row
 
 pub part_size : (cs : List ℕ) → length cs ≤ 128
     → (1 ≤ length (part_text cs)) × (length (part_text cs) ≤ 516)
 part_size cs few = (omega arith, omega (arith, pairs cs, few, length-append (u16_text (length cs)) (flat_map u16_text cs)))
 
-pub rows_size : (targets k : ℕ) (rows : List (List Bool)) → targets ≤ 256 → length rows ≡ k
-    → AllByRecursion (λ row. length row ≡ targets) rows → length (flat_map row_text rows) ≤ 32 * k
-rows_size targets k [] few e h = omega arith
-rows_size targets zero (row ∷ rows) few e h = absurd (omega (arith, e))
-rows_size targets (suc k) (row ∷ rows) few e h =
-    let one : length (row_text row) ≤ 32 = omega (arith, row_long row, h.0, few) in
-    omega (arith, ap length (flat_map-cons row_text row rows), length-append (row_text row) (flat_map row_text rows), one, rows_size targets k rows few (omega (arith, e)) h.1)
+pub row_length : (targets : ℕ) (row : List Bool) → 0 < targets → targets ≤ 256
+    → length row ≡ targets → (1 ≤ length (row_text row)) × (length (row_text row) ≤ 32)
+row_length targets row some few e =
+    (omega (arith, row_long row, e, some), omega (arith, row_long row, e, few))
 
 -- ---- heads
 

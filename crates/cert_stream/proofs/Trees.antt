@@ -1,10 +1,9 @@
 -- The check of the front of a tree, one node more at a time, and of a tree that was read whole.
-use Rattle.std.proofs.Common.{◌≡◌, ◌⊎◌, inl, inr, ℕ, ◌+◌, ◌-◌, ◌<◌, ◌≤◌, Bool, false, List, [], ◌∷◌, ◌++◌, length, Option, Some, None, refl, sym, ap, subst, ◌∙◌, arith}
-use Rattle.std.specs.Prelude.{IfSome}
+use Rattle.std.proofs.Common.{◌≡◌, inl, inr, ℕ, ◌+◌, ◌-◌, ◌<◌, ◌≤◌, false, Box, Global, List, [], ◌∷◌, ◌++◌, Option, Some, refl, sym, subst}
 use Rattle.std.proofs.lemmas.Option.{same_Some}
 use Rattle.lat_base.specs.declared.contest.Contest.{Contest}
 use Rattle.lat_base.specs.Part.{IsPart, part}
-use Rattle.lat_base.specs.Rules.{RuleSet, Obeys}
+use Rattle.lat_base.specs.Rules.{RuleSet}
 use Rattle.lat_base.specs.Shape.{target_count}
 use Rattle.lat_ballots.specs.Deck.{Ballots}
 use Rattle.close_rules.specs.declared.label.Label.{Label}
@@ -29,22 +28,23 @@ use Rattle.cert_types.specs.declared.proved.Proved.{Proved}
 use Rattle.cert_types.specs.Holding.{IsDeckFault, IsPartsFault}
 use Rattle.cert_types.specs.Lower.{lower_root}
 use Rattle.cert_types.specs.LowerPart.{LowerPart}
-use Rattle.cert_types.specs.Proved.{IsProved}
 use Rattle.cert_check.specs.Answers.{IsDeckAnswer, ArePartsAnswer}
 use Rattle.cert_stream.specs.declared.walk.Checking.{Checking}
 use Rattle.cert_stream.specs.declared.walk.Checking.TheVariants.{On, Off}
 use Rattle.cert_stream.specs.declared.walk.Walk.{Walk}
 use Rattle.cert_stream.specs.Phases.{IsEvadeCheck, IsDeckCheck}
 use Rattle.cert_stream.specs.Stands.{RobustSoFar, LowerSoFar, lower_of}
-use Rattle.cert_stream.specs.Walks.{Stood, IsOpenWalk, Follows, fault_of}
+use Rattle.cert_stream.specs.Walks.{Stood, IsOpenWalk, OpenAt, Follows, fault_of}
 use Rattle.cert_stream.proofs.Nodes.{wanted_more}
 use Rattle.cert_stream.proofs.Walked.{fault_grows}
 
 -- what the check of one more node does
 abbrev pub ChecksOn : {W S B R : Type 0} → (W → Steps S B R) → (W → S → Type 0) → Part → Node B R → Checking W S B R → Checking W S B R → Type 0
 ChecksOn {W} {S} {B} {R} steps own part node check later =
-    (walk : Walk W S B R) → check ≡ On walk → (root : S) (nodes : List (Node B R)) (wanted : ℕ) → IsOpenWalk (steps walk.space) (own walk.space) walk root nodes wanted
-    → Follows (steps walk.space) (own walk.space) walk.space root part (nodes ++ node ∷ []) later
+    (walk : Box (Walk W S B R) Global) → check ≡ On walk → let space = walk.value.space in
+    (root : S) (nodes : List (Node B R)) (wanted : ℕ)
+    → IsOpenWalk (steps space) (own space) walk.value root nodes wanted
+    → Follows (steps space) (own space) space root part (nodes ++ node ∷ []) later
 
 abbrev pub StaysOff : {W S B R : Type 0} → Checking W S B R → Checking W S B R → Type 0
 StaysOff check later = (part : Part) (i : ℕ) → check ≡ Off part i → later ≡ Off part i
@@ -58,22 +58,20 @@ DeckCheck = Checking Decks PartialDeck Label Reason
 -- ---- what a check keeps of itself
 
 pub evade_walk : (check : EvadeCheck) (wanted : ℕ) → IsEvadeCheck check wanted
-    → (walk : Walk Sought PartialMisassignment ℕ Skipped) → check ≡ On walk
-    → (root : PartialMisassignment) × (nodes : List (Node ℕ Skipped)) × (w : ℕ)
-    × IsOpenWalk (evade_steps walk.space) (IsEvadeState walk.space) walk root nodes w
+    → (walk : Box (Walk Sought PartialMisassignment ℕ Skipped) Global) → check ≡ On walk
+    → OpenAt evade_steps IsEvadeState walk.value
 evade_walk (Off p i) wanted h walk e = absurd (cc)
 evade_walk (On w) wanted h walk e =
     let same : w ≡ walk = cc in
-    subst (λ (x : Walk Sought PartialMisassignment ℕ Skipped). (root : PartialMisassignment) × (nodes : List (Node ℕ Skipped)) × (n : ℕ) × IsOpenWalk (evade_steps x.space) (IsEvadeState x.space) x root nodes n) same (h.0, h.1, wanted, h.2)
+    subst (λ (x : Box (Walk Sought PartialMisassignment ℕ Skipped) Global). OpenAt evade_steps IsEvadeState x.value) same (h.0, h.1, wanted, h.2)
 
 pub deck_walk : (check : DeckCheck) (wanted : ℕ) → IsDeckCheck check wanted
-    → (walk : Walk Decks PartialDeck Label Reason) → check ≡ On walk
-    → (root : PartialDeck) × (nodes : List (Node Label Reason)) × (w : ℕ)
-    × IsOpenWalk deck_steps IsPartial walk root nodes w
+    → (walk : Box (Walk Decks PartialDeck Label Reason) Global) → check ≡ On walk
+    → OpenAt (λ _. deck_steps) (λ _. IsPartial) walk.value
 deck_walk (Off p i) wanted h walk e = absurd (cc)
 deck_walk (On w) wanted h walk e =
     let same : w ≡ walk = cc in
-    subst (λ (x : Walk Decks PartialDeck Label Reason). (root : PartialDeck) × (nodes : List (Node Label Reason)) × (n : ℕ) × IsOpenWalk deck_steps IsPartial x root nodes n) same (h.0, h.1, wanted, h.2)
+    subst (λ (x : Box (Walk Decks PartialDeck Label Reason) Global). OpenAt (λ _. deck_steps) (λ _. IsPartial) x.value) same (h.0, h.1, wanted, h.2)
 
 pub evade_check_next : (part : Part) (check later : EvadeCheck) (node : Node ℕ Skipped)
     (wanted after : ℕ) → ChecksOn evade_steps IsEvadeState part node check later
@@ -84,8 +82,8 @@ evade_check_next part (Off p i) later node wanted after on off is some h = subst
 evade_check_next part (On walk) later node wanted after on off is some h = by_later later (on walk refl h.0 h.1 wanted h.2)
   where
     by_later : (later : EvadeCheck)
-        → Follows (evade_steps walk.space) (IsEvadeState walk.space) walk.space h.0 part
-        (h.1 ++ node ∷ []) later → IsEvadeCheck later after
+        → Follows (evade_steps walk.value.space) (IsEvadeState walk.value.space) walk.value.space
+        h.0 part (h.1 ++ node ∷ []) later → IsEvadeCheck later after
     by_later (Off p i) f = tt
     by_later (On w) f = (
       h.0,
@@ -93,7 +91,7 @@ evade_check_next part (On walk) later node wanted after on off is some h = by_la
       record {
         wants = rw is (wanted_more h.1 1 wanted node h.2.wants h.2.some);
         some = some;
-        stood = subst (λ (s : Sought). Stood (evade_steps s) (IsEvadeState s) h.0 (h.1 ++ node ∷ []) w.forks.items w.way.items w.state) (sym f.0) f.1;
+        stood = subst (λ (s : Sought). Stood (evade_steps s) (IsEvadeState s) h.0 (h.1 ++ node ∷ []) w.value.forks.items w.value.way.items w.value.state) (sym f.0) f.1;
         seen = f.2;
       },
     )
@@ -107,7 +105,7 @@ deck_check_next part (Off p i) later node wanted after on off is some h = subst 
 deck_check_next part (On walk) later node wanted after on off is some h = by_later later (on walk refl h.0 h.1 wanted h.2)
   where
     by_later : (later : DeckCheck)
-        → Follows deck_steps IsPartial walk.space h.0 part (h.1 ++ node ∷ []) later
+        → Follows deck_steps IsPartial walk.value.space h.0 part (h.1 ++ node ∷ []) later
         → IsDeckCheck later after
     by_later (Off p i) f = tt
     by_later (On w) f = (h.0, h.1 ++ node ∷ [], record { wants = rw is (wanted_more h.1 1 wanted node h.2.wants h.2.some); some = some; stood = f.1; seen = f.2 })
@@ -140,12 +138,12 @@ module _ (contests : List Contest) (rules : RuleSet) (deck : Ballots) where
       subst (λ (c : EvadeCheck). RobustSoFar contests rules deck (nodes ++ node ∷ []) c) (sym (off p i refl)) (deck_fault_grows nodes node p i h)
   robust_next nodes (On walk) later node wanted on off wants some h = by_later later (subst (λ (s : Sought). Follows (evade_steps s) (IsEvadeState s) s (start sought) parts.Robust (nodes ++ node ∷ []) later) h.1.0 followed)
     where
-      followed : Follows (evade_steps walk.space) (IsEvadeState walk.space) walk.space
-          (start sought) parts.Robust (nodes ++ node ∷ []) later
+      followed : Follows (evade_steps walk.value.space) (IsEvadeState walk.value.space)
+          walk.value.space (start sought) parts.Robust (nodes ++ node ∷ []) later
       followed = on walk refl (start sought) nodes wanted (record {
         wants = wants;
         some = some;
-        stood = subst (λ (s : Sought). Stood (evade_steps s) (IsEvadeState s) (start sought) nodes walk.forks.items walk.way.items walk.state) (sym h.1.0) h.1.1;
+        stood = subst (λ (s : Sought). Stood (evade_steps s) (IsEvadeState s) (start sought) nodes walk.value.forks.items walk.value.way.items walk.value.state) (sym h.1.0) h.1.1;
         seen = h.1.2;
       })
 
@@ -192,7 +190,7 @@ module _ (contests : List Contest) (rules : RuleSet) (proved : Option Proved) (c
       by_later later (on walk refl root nodes wanted (record { wants = wants; some = some; stood = h.1.1; seen = h.1.2 }))
     where
       by_later : (later : DeckCheck)
-          → Follows deck_steps IsPartial walk.space root parts.Lower (nodes ++ node ∷ []) later
+          → Follows deck_steps IsPartial walk.value.space root parts.Lower (nodes ++ node ∷ []) later
           → LowerSoFar contests rules proved chosen size (nodes ++ node ∷ []) later
       by_later (On w) f = (h.0, (refl, f.1, f.2))
       by_later (Off p i) f = inr (h.0, lower_of chosen size (nodes ++ node ∷ []), refl, f.0, f.1)

@@ -6,14 +6,13 @@ use Rattle.std.proofs.lemmas.Option.{none-some, same_Some, slice_get_within}
 use Rattle.tree_core.specs.declared.node.Node.{Node}
 use Rattle.tree_core.specs.declared.node.Node.TheVariants.{Close, Fork, Open}
 use Rattle.tree_core.specs.declared.walk.Entry.{Entry}
-use Rattle.tree_core.specs.Steps.{Steps, IsKid}
+use Rattle.tree_core.specs.Steps.{Steps}
 use Rattle.tree_core.specs.Checks.{NodeHolds}
-use Rattle.tree_core.specs.Places.{kids_from, after, ahead, state_at, EachPlace, IsFirstFault}
+use Rattle.tree_core.specs.Places.{kids_from, after, ahead, EachPlace, IsFirstFault}
 use Rattle.tree_core.specs.Walk.{Stands, Lands}
 use Rattle.tree_core.proofs.Ahead.{ahead-append, length-kids_from}
 use Rattle.tree_core.proofs.Each.{each_nil, each_snoc}
 use Rattle.tree_core.proofs.Lists.{slice_get-last, slice_get-front}
-use Rattle.tree_core.proofs.Walks.{stands_own}
 use Rattle.cert_fields.specs.TreeReading.{kids_of, wanted_after}
 use Rattle.cert_stream.specs.Walks.{IsStack, ComesTo, Stood}
 

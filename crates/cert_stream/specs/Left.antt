@@ -1,8 +1,7 @@
 -- How the rest of a certificate is read from each place where a stream can stand, as functions on
 -- the bytes that are left. Each gives the parts of the whole certificate.
-use Rattle.std.specs.Prelude.{ℕ, ◌==◌, ◌++◌, [], List, length, Option, Some, None, if◌then◌else◌}
+use Rattle.std.specs.Prelude.{ℕ, ◌==◌, ◌++◌, [], Bool, List, length, Option, Some, None, if◌then◌else◌}
 use Rattle.lat_base.specs.declared.limits.TheConstants.{MOST_BALLOTS}
-use Rattle.lat_base.specs.declared.contest.Contest.{Contest}
 use Rattle.lat_base.specs.Shape.{target_count}
 use Rattle.lat_ballots.specs.Deck.{Ballots}
 use Rattle.close_rules.specs.declared.label.Label.{Label}
@@ -96,15 +95,15 @@ robust_left head verdict deck nodes wanted bytes =
     lower_part_left head verdict (Some (record { deck = deck; robust = nodes ++ t.0 }))
     (lower_size verdict) t.1
 
--- the rows of a deck of that many ballots
-abbrev pub rows_left : Head → Verdict → ℕ → List ℕ → Option Parts
-rows_left head verdict k bytes =
+-- so many more rows of a deck, behind these ballots of it
+abbrev pub rows_left : Head → Verdict → List (List Bool) → ℕ → List ℕ → Option Parts
+rows_left head verdict ballots k bytes =
     rows_at (target_count head.contests) k bytes >>= λ d.
-    robust_left head verdict (record { targets = target_count head.contests; ballots = d.0 })
-    [] 1 d.1
+    robust_left head verdict
+    (record { targets = target_count head.contests; ballots = ballots ++ d.0 }) [] 1 d.1
 
 -- a deck of that many ballots, if there is one
 abbrev pub deck_left : Head → Verdict → Option ℕ → List ℕ → Option Parts
 deck_left head verdict None bytes =
     lower_part_left head verdict None (lower_size verdict) bytes
-deck_left head verdict (Some k) bytes = rows_left head verdict k bytes
+deck_left head verdict (Some k) bytes = rows_left head verdict [] k bytes

@@ -1,6 +1,7 @@
 -- What a stream keeps of itself at each place, whatever bytes it stands for.
-use Rattle.std.specs.Prelude.{◌≡◌, ◌≤◌, ◌<◌, ℕ, zero, suc, Bool, false, List, [], length, Option, Some, None, nat_lt, ◌&&◌, ◌==◌, if◌then◌else◌}
+use Rattle.std.specs.Prelude.{◌≡◌, ◌≤◌, ◌<◌, ℕ, Bool, false, List, length, nat_lt, ◌==◌, if◌then◌else◌}
 use Rattle.lat_base.specs.declared.limits.TheConstants.{MOST_BALLOTS}
+use Rattle.lat_base.specs.Shape.{target_count}
 use Rattle.cert_fields.specs.Head.{Head}
 use Rattle.cert_types.specs.Fitting.{IsVerdict}
 use Rattle.close_rules.specs.declared.label.Label.{Label}
@@ -28,20 +29,23 @@ head_of front = record { names = front.names; contests = front.shape; rules = fr
 -- a check that goes on is in a tree of its own space
 abbrev pub IsEvadeCheck : Checking Sought PartialMisassignment ℕ Skipped → ℕ → Type 0
 IsEvadeCheck (On walk) wanted =
+    let sought = walk.value.space in
     (root : PartialMisassignment) × (nodes : List (Node ℕ Skipped))
-    × IsOpenWalk (evade_steps walk.space) (IsEvadeState walk.space) walk root nodes wanted
+    × IsOpenWalk (evade_steps sought) (IsEvadeState sought) walk.value root nodes wanted
 IsEvadeCheck (Off part i) wanted = Unit {0}
 
 abbrev pub IsDeckCheck : Checking Decks PartialDeck Label Reason → ℕ → Type 0
 IsDeckCheck (On walk) wanted =
     (root : PartialDeck) × (nodes : List (Node Label Reason))
-    × IsOpenWalk deck_steps IsPartial walk root nodes wanted
+    × IsOpenWalk deck_steps IsPartial walk.value root nodes wanted
 IsDeckCheck (Off part i) wanted = Unit {0}
 
 -- the numbers are in range, and each walk is one
 abbrev pub IsPhase : Phase → Type 0
 IsPhase Start = Unit {0}
-IsPhase (Rows front k) = IsVerdict front.verdict × (k ≤ MOST_BALLOTS)
+IsPhase (Rows front deck j) =
+    IsVerdict front.verdict × (deck.targets ≡ target_count front.shape)
+    × (j ≤ length deck.ballots)
 IsPhase (Robust front wanted check) =
     IsVerdict front.verdict × (0 < wanted) × IsEvadeCheck check wanted
 IsPhase (Contests front size fault) = size ≤ MOST_BALLOTS
@@ -51,7 +55,7 @@ IsPhase (Done front fault) = Unit {0}
 -- no field that begins at this place takes more bytes
 abbrev pub most_of : Phase → ℕ
 most_of Start = 25560
-most_of (Rows front k) = 32768
+most_of (Rows front deck j) = 32
 most_of (Robust front wanted check) = 516
 most_of (Contests front size fault) = 516
 most_of (Lower front wanted check) = 516
@@ -63,7 +67,7 @@ abbrev pub waits : Phase → ℕ → Bool → Bool
 waits (Done front fault) there ending = there == 0
 waits phase there ending = if ending then false else nat_lt there (most_of phase)
 
--- each field takes a byte, but rows may take none
+-- each field takes a byte, but the place behind the last row none
 abbrev pub rank : Phase → ℕ
-rank (Rows front k) = 1
+rank (Rows front deck j) = 1
 rank phase = 0

@@ -1,5 +1,5 @@
 -- For which bytes a stream stands.
-use Rattle.std.specs.Prelude.{◌≡◌, ◌≤◌, ◌++◌, ℕ, List, [], length, Option, Some, None, option_map, IfSome}
+use Rattle.std.specs.Prelude.{◌≡◌, ◌≤◌, ◌++◌, ◌-◌, ℕ, List, length, take, Option, Some, None, option_map, IfSome}
 use Rattle.lat_base.specs.declared.limits.TheConstants.{MOST_BALLOTS}
 use Rattle.lat_base.specs.declared.contest.Contest.{Contest}
 use Rattle.lat_base.specs.Part.{IsPart, part}
@@ -21,13 +21,11 @@ use Rattle.cert_fields.specs.declared.fault.CertFault.{CertFault}
 use Rattle.cert_fields.specs.TreeReading.{wanted_after}
 use Rattle.cert_types.specs.declared.part.Part.TheVariants as parts
 use Rattle.cert_types.specs.declared.proved.Proved.{Proved}
-use Rattle.cert_types.specs.Fitting.{lower_size}
 use Rattle.cert_types.specs.Holding.{IsDeckFault, IsPartsFault}
 use Rattle.cert_types.specs.Lower.{lower_root}
 use Rattle.cert_types.specs.LowerPart.{LowerPart}
 use Rattle.cert_types.specs.Proved.{IsProved}
 use Rattle.cert_check.specs.Answers.{IsDeckAnswer, ArePartsAnswer}
-use Rattle.cert_stream.specs.declared.front.Front.{Front}
 use Rattle.cert_stream.specs.declared.phase.Phase.{Phase}
 use Rattle.cert_stream.specs.declared.phase.Phase.TheVariants.{Start, Rows, Robust, Contests, Lower, Done}
 use Rattle.cert_stream.specs.declared.walk.Checking.{Checking}
@@ -66,19 +64,21 @@ abbrev pub LowerSoFar : List Contest → RuleSet → Option Proved → List ℕ 
     → List (Node Label Reason) → Checking Decks PartialDeck Label Reason → Type 0
 LowerSoFar contests rules proved chosen size nodes (On walk) =
     IfSome proved (IsProved contests rules)
-    × Follows deck_steps IsPartial walk.space
+    × Follows deck_steps IsPartial walk.value.space
     (lower_root contests rules (lower_of chosen size nodes)) parts.Lower nodes (On walk)
 LowerSoFar contests rules proved chosen size nodes (Off part i) =
     IsPartsFault contests rules proved (Some (lower_of chosen size nodes)) part i
 
 -- A stream stands for all of these bytes where it holds back the last of them, and:
--- at the start nothing was read; then the front was; then the rows of a deck, and some nodes of its
--- tree; then all of the deck, if there is one; then the contests of a lower part, and some nodes of
--- its tree; then all. What was read so far was checked.
+-- at the start nothing was read; then the front was, and some rows of a deck; then some nodes of
+-- its tree; then all of the deck, if there is one; then the contests of a lower part, and some
+-- nodes of its tree; then all. What was read so far was checked.
 abbrev pub StandsAt : Phase → List ℕ → List ℕ → Type 0
 StandsAt Start held all = Reads all held whole_at
-StandsAt (Rows front k) held all =
-    (front.best ≡ Some k) × Reads all held (rows_left (head_of front) front.verdict k)
+StandsAt (Rows front deck j) held all =
+    (front.best ≡ Some (length deck.ballots))
+    × Reads all held (rows_left (head_of front) front.verdict (take j deck.ballots)
+    (length deck.ballots - j))
 StandsAt (Robust front wanted check) held all =
     (deck : Ballots) × (nodes : List (Node ℕ Skipped))
     × (deck.targets ≡ target_count front.shape) × (front.best ≡ Some (length deck.ballots))

@@ -40,13 +40,20 @@ pub record IsOpenWalk {W S B R : Type 0} (steps : Steps S B R) (own : S → Type
   pub stood : Stood steps own root nodes walk.forks.items walk.way.items walk.state
   pub seen : walk.seen ≡ length nodes
 
+-- a walk is in a tree of its own space
+abbrev pub OpenAt : {W S B R : Type 0} → (W → Steps S B R) → (W → S → Type 0) → Walk W S B R
+    → Type 0
+OpenAt {W} {S} {B} {R} steps own walk =
+    (root : S) × (nodes : List (Node B R)) × (wanted : ℕ)
+    × IsOpenWalk (steps walk.space) (own walk.space) walk root nodes wanted
+
 -- the check of the front of a tree: it goes on, or has met the first node that doesn't hold
 abbrev pub Follows : {W S B R : Type 0} → Steps S B R → (S → Type 0) → W → S → Part
     → List (Node B R) → Checking W S B R → Type 0
 Follows steps own space root part nodes (On walk) =
-    (walk.space ≡ space)
-    × Stood steps own root nodes walk.forks.items walk.way.items walk.state
-    × (walk.seen ≡ length nodes)
+    (walk.value.space ≡ space)
+    × Stood steps own root nodes walk.value.forks.items walk.value.way.items walk.value.state
+    × (walk.value.seen ≡ length nodes)
 Follows steps own space root part nodes (Off fault i) =
     (fault ≡ part) × IsFirstFault false steps root nodes i
 

@@ -1,4 +1,4 @@
-ghost use Rattle.std.specs.Prelude.{◌≡◌, ◌≤◌, ◌<◌, Option, IfSome, List, length, ℕ};
+ghost use Rattle.std.specs.Prelude.{◌≡◌, ◌≤◌, ◌<◌, Option, IfOk, IfSome, List, length, ℕ};
 ghost use Rattle.lat_base.specs.Part.{IsPart};
 ghost use Rattle.lat_base.specs.Shape.{target_count};
 ghost use Rattle.lat_ballots.specs.Deck.{Ballots};
@@ -18,6 +18,8 @@ use close_rules::{Label, Reason};
 use deck_space::Decks;
 use deck_state::Partial;
 use evade_space::{Evade, EvadeState, Skipped};
+use lat_ballots::Deck;
+use std::alloc::{AllocError, Global};
 
 /// Where a stream stands: which field comes next, and what was read before it. Numbers of trees are
 /// those that are still wanted, 1 in front of a tree.
@@ -25,8 +27,8 @@ use evade_space::{Evade, EvadeState, Skipped};
 pub(crate) enum Phase {
     /// The front.
     Start,
-    /// The rows of a deck of that many ballots.
-    Rows(Front, u16),
+    /// A row of a deck, of which so many are read; the others are blank so far.
+    Rows(Front, Deck, u16),
     /// A node of the deck's tree.
     Robust(Front, u64, Checking<Evade, EvadeState, u16, Skipped>),
     /// The contests of a lower part of that size; the first fault of the deck, if there is one.
@@ -37,14 +39,14 @@ pub(crate) enum Phase {
     Done(Front, Option<(Part, u64)>),
 }
 
-// No field that begins at this place takes more bytes: the front with the longest names, 1,024 rows
-// of 32 bytes, and 258 and 516 bytes of contests and of a node.
+// No field that begins at this place takes more bytes: the front with the longest names, a row of
+// 256 targets, and 258 and 516 bytes of contests and of a node.
 fn most_of(phase: &Phase) -> usize
     ensures { result ≡ most_of phase.now }
 {
     match phase {
         Phase::Start => 25_560,
-        Phase::Rows(_, _) => 32_768,
+        Phase::Rows(_, _, _) => 32,
         Phase::Robust(_, _, _) => 516,
         Phase::Contests(_, _, _) => 516,
         Phase::Lower(_, _, _) => 516,
@@ -84,19 +86,22 @@ fn lower_size(verdict: Verdict) -> Option<u16>
 }
 
 /// The place behind the front.
-pub(crate) fn behind_front(front: Front) -> Phase
+pub(crate) fn behind_front(alloc: Global, front: Front) -> Result<Phase, AllocError>
     requires verdict { IsVerdict front.verdict }
     requires few { IfSome front.best (λ k. k ≤ 1024) }
-    ensures phase { IsPhase result }
-    ensures rank { rank result ≤ 1 }
-    ensures stands { (held all : List ℕ) →
+    ensures phase { IfOk result IsPhase }
+    ensures rank { IfOk result (λ phase. rank phase ≤ 1) }
+    ensures stands { IfOk result (λ phase. (held all : List ℕ) →
         Reads all held (deck_left (head_of front) front.verdict front.best) →
-        StandsAt result held all }
+        StandsAt phase held all) }
 {
     let best = front.best;
     match best {
-        Some(k) => Phase::Rows(front, k),
-        None => behind_deck(front, None),
+        Some(k) => {
+            let deck = Deck::blank(alloc, &front.shape, k)?;
+            Ok(Phase::Rows(front, deck, 0))
+        }
+        None => Ok(behind_deck(front, None)),
     }
 }
 

@@ -1,18 +1,19 @@
-ghost use Rattle.std.specs.Prelude.{◌≡◌, ◌≤◌, ◌<◌, ◌+◌, [], true, false, Option, length, Err, IfOk};
+ghost use Rattle.std.specs.Prelude.{◌≡◌, ◌≤◌, ◌<◌, ◌+◌, [], true, false, ℕ, List, Option, length, Err, IfOk};
 ghost use Rattle.lat_base.specs.Part.{IsPart};
 ghost use Rattle.lat_base.specs.Shape.{target_count};
 ghost use Rattle.cert_types.specs.declared.proved.Proved.{Proved};
 ghost use Rattle.cert_types.specs.Fitting.{IsVerdict};
 ghost use Rattle.cert_check.specs.Answers.{IsDeckAnswer};
-ghost use Rattle.cert_stream.specs.Phases.{IsPhase, IsEvadeCheck, IsDeckCheck, rank, waits};
-ghost use Rattle.cert_stream.specs.Stands.{Moves, Refuses, RobustSoFar, LowerSoFar, IsTail};
+ghost use Rattle.cert_stream.specs.Phases.{IsPhase, IsEvadeCheck, IsDeckCheck, rank, waits, head_of};
+ghost use Rattle.cert_stream.specs.Left.{robust_left};
+ghost use Rattle.cert_stream.specs.Stands.{Moves, Reads, Refuses, RobustSoFar, LowerSoFar, IsTail, StandsAt};
 
 use crate::front::Front;
 use crate::node::wanted_behind;
 use crate::phase::{Phase, behind_front, behind_lower, behind_robust};
 use crate::reading::front_of;
 use crate::walk::{Checking, Walk, check_node};
-use cert_fields::{node_of, part_list_of, rows_of};
+use cert_fields::{node_of, part_list_of, row_of};
 use cert_types::{CertFault, Part};
 use close_rules::{Label, Reason};
 use deck_space::Decks;
@@ -34,7 +35,8 @@ fn read_front(alloc: Global, bytes: &[u8]) -> Result<(Phase, &[u8]), CertFault>
     ensures refused { result ≡ Err CertFault.NotACertificate → Refuses Phase.Start bytes.now }
 {
     let (front, rest) = front_of(alloc, bytes)?;
-    Ok((behind_front(front), rest))
+    let phase = behind_front(alloc, front)?;
+    Ok((phase, rest))
 }
 
 // The check of a deck's tree of which no node was read; the deck itself is checked here.
@@ -53,35 +55,77 @@ fn robust_check(
     }
     let space = Evade::own(alloc, &front.shape, deck)?;
     let state = space.state(alloc)?;
-    Ok(Checking::On(Walk {
+    let walk = Walk {
         space,
         state,
         forks: Vec::new(alloc),
         way: Vec::new(alloc),
         seen: 0,
-    }))
+    };
+    let walk = Box::new(alloc, walk)?;
+    Ok(Checking::On(walk))
 }
 
-// Reads the rows of a deck of `k` ballots.
+// The place behind a deck, of which each row was read.
+fn behind_rows(alloc: Global, front: Front, deck: &Deck) -> Result<Phase, AllocError>
+    requires verdict { IsVerdict front.verdict }
+    requires targets { deck.now.targets ≡ target_count front.shape }
+    ensures phase { IfOk result IsPhase }
+    ensures rank { IfOk result (λ phase. rank phase ≡ 0) }
+    ensures stands { IfOk result (λ phase. (held all : List ℕ) →
+        front.best ≡ Option.Some (length deck.now.ballots) →
+        Reads all held (robust_left (head_of front) front.verdict deck.now [] 1) →
+        StandsAt phase held all) }
+{
+    let check = robust_check(alloc, &front, deck)?;
+    Ok(Phase::Robust(front, 1, check))
+}
+
+// Reads row `j` of a deck.
+fn read_row<'a>(
+    front: Front,
+    mut deck: Deck,
+    j: u16,
+    bytes: &'a [u8],
+) -> Result<(Phase, &'a [u8]), CertFault>
+    requires phase { IsPhase (Phase.Rows front deck j) }
+    requires row { j < length deck.ballots }
+    ensures phase { IfOk result (λ x. IsPhase x.0) }
+    ensures moves { IfOk result (λ x. Moves (Phase.Rows front deck j) bytes.now x.0 x.1.now) }
+    ensures tail { IfOk result (λ x. IsTail bytes.now x.1.now) }
+    ensures shorter { IfOk result (λ x.
+        length x.1.now + rank x.0 < length bytes.now + rank (Phase.Rows front deck j)) }
+    ensures refused { result ≡ Err CertFault.NotACertificate →
+        Refuses (Phase.Rows front deck j) bytes.now }
+{
+    let _targets = front.shape.targets();
+    let _ballots = deck.ballots();
+    let rest = row_of(&mut deck, j, bytes)?;
+    Ok((Phase::Rows(front, deck, j + 1), rest))
+}
+
+// Reads a row of a deck of which `j` are read; behind the last one it reads nothing.
 fn read_rows<'a>(
     alloc: Global,
     front: Front,
-    k: u16,
+    deck: Deck,
+    j: u16,
     bytes: &'a [u8],
 ) -> Result<(Phase, &'a [u8]), CertFault>
-    requires { IsPhase (Phase.Rows front k) }
+    requires { IsPhase (Phase.Rows front deck j) }
     ensures phase { IfOk result (λ x. IsPhase x.0) }
-    ensures moves { IfOk result (λ x. Moves (Phase.Rows front k) bytes.now x.0 x.1.now) }
+    ensures moves { IfOk result (λ x. Moves (Phase.Rows front deck j) bytes.now x.0 x.1.now) }
     ensures tail { IfOk result (λ x. IsTail bytes.now x.1.now) }
     ensures shorter { IfOk result (λ x.
-        length x.1.now + rank x.0 < length bytes.now + rank (Phase.Rows front k)) }
+        length x.1.now + rank x.0 < length bytes.now + rank (Phase.Rows front deck j)) }
     ensures refused { result ≡ Err CertFault.NotACertificate →
-        Refuses (Phase.Rows front k) bytes.now }
+        Refuses (Phase.Rows front deck j) bytes.now }
 {
-    let _targets = front.shape.targets();
-    let (deck, rest) = rows_of(alloc, bytes, &front.shape, k)?;
-    let check = robust_check(alloc, &front, &deck)?;
-    Ok((Phase::Robust(front, 1, check), rest))
+    if j < deck.ballots() {
+        return read_row(front, deck, j, bytes);
+    }
+    let phase = behind_rows(alloc, front, &deck)?;
+    Ok((phase, bytes))
 }
 
 // Reads a node of the deck's tree.
@@ -128,13 +172,15 @@ fn lower_check(
     match part(alloc, &front.shape, chosen) {
         Ok(shape) => {
             let state = Partial::open(alloc, &shape, &front.rules, size)?;
-            Ok(Checking::On(Walk {
+            let walk = Walk {
                 space: Decks::new(),
                 state,
                 forks: Vec::new(alloc),
                 way: Vec::new(alloc),
                 seen: 0,
-            }))
+            };
+            let walk = Box::new(alloc, walk)?;
+            Ok(Checking::On(walk))
         }
         // The list was tested as it was read, so there is no other fault than want of memory.
         Err(_) => Err(AllocError),
@@ -207,7 +253,7 @@ pub(crate) fn step<'a>(
 {
     match phase {
         Phase::Start => read_front(alloc, bytes),
-        Phase::Rows(front, k) => read_rows(alloc, front, k, bytes),
+        Phase::Rows(front, deck, j) => read_rows(alloc, front, deck, j, bytes),
         Phase::Robust(front, wanted, check) => read_robust(alloc, front, wanted, check, bytes),
         Phase::Contests(front, size, fault) => read_contests(alloc, front, size, fault, bytes),
         Phase::Lower(front, wanted, check) => read_lower(alloc, front, wanted, check, bytes),

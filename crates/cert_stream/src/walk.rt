@@ -1,9 +1,10 @@
-ghost use Rattle.std.specs.Prelude.{◌≡◌, ◌∷◌, ◌++◌, [], ℕ, List, Bool, true, false, Ok, IfOk, OnOk, reverse};
+ghost use Rattle.std.specs.Prelude.{◌≡◌, ◌∷◌, ◌++◌, [], ℕ, List, Bool, Box, true, false, Ok, IfOk, OnOk, reverse};
+ghost use Rattle.std.specs.declared.alloc.Global.{Global};
 ghost use Rattle.tree_core.specs.declared.node.Node.{Node};
 ghost use Rattle.tree_core.specs.Checks.{NodeHolds};
 ghost use Rattle.tree_core.specs.Places.{after};
 ghost use Rattle.tree_core.specs.Walk.{Stands, IsOnWay};
-ghost use Rattle.cert_stream.specs.Walks.{IsStack, ComesTo, IsOpenWalk, Follows, fault_of};
+ghost use Rattle.cert_stream.specs.Walks.{IsStack, ComesTo, IsOpenWalk, OpenAt, Follows, fault_of};
 
 use cert_types::Part;
 use std::alloc::AllocError;
@@ -25,7 +26,8 @@ pub(crate) struct Walk<W, S, B, R> {
 #[derive(Debug, Drop)]
 pub(crate) enum Checking<W, S, B, R> {
     /// Each node so far holds.
-    On(Walk<W, S, B, R>),
+    // Behind a pointer, since the check is handed from node to node.
+    On(Box<Walk<W, S, B, R>>),
     /// The first fault of all. The nodes behind it are not looked at.
     Off(Part, u64),
 }
@@ -64,37 +66,33 @@ fn visit<S: Space>(
 
 /// Checks the next node in preorder; where it doesn't hold, it is the first fault of this part.
 fn walk_on<S: Space + Drop>(
-    walk: Walk<S, S::State, S::Label, S::Reason>,
+    mut walk: Box<Walk<S, S::State, S::Label, S::Reason>>,
     node: Node<S::Label, S::Reason>,
     part: Part,
 ) -> Result<Checking<S, S::State, S::Label, S::Reason>, AllocError>
-    requires { (root : S.State) × (nodes : List (Node S.Label S.Reason)) × (wanted : ℕ) ×
-        IsOpenWalk (S.steps walk.space) (S.is_own walk.space) walk root nodes wanted }
-    ensures { IfOk result (λ check. (root : S.State) (nodes : List (Node S.Label S.Reason))
+    requires { OpenAt S.steps S.is_own walk.value }
+    ensures { let space = walk.value.space in
+        IfOk result (λ check. (root : S.State) (nodes : List (Node S.Label S.Reason))
         (wanted : ℕ) →
-        IsOpenWalk (S.steps walk.space) (S.is_own walk.space) walk root nodes wanted →
-        Follows (S.steps walk.space) (S.is_own walk.space) walk.space root part
-        (nodes ++ node ∷ []) check) }
+        IsOpenWalk (S.steps space) (S.is_own space) walk.value root nodes wanted →
+        Follows (S.steps space) (S.is_own space) space root part (nodes ++ node ∷ []) check) }
 {
-    let Walk {
-        space,
-        mut state,
-        mut forks,
-        mut way,
-        seen,
-    } = walk;
-    space.laws();
-    if !visit(&space, &mut state, node, &mut forks, &mut way)? {
-        return Ok(Checking::Off(part, seen));
+    let here = &mut *walk;
+    here.space.laws();
+    if !visit(
+        &here.space,
+        &mut here.state,
+        node,
+        &mut here.forks,
+        &mut here.way,
+    )? {
+        return Ok(Checking::Off(part, here.seen));
     }
-    match seen.checked_add(1) {
-        Some(seen) => Ok(Checking::On(Walk {
-            space,
-            state,
-            forks,
-            way,
-            seen,
-        })),
+    match here.seen.checked_add(1) {
+        Some(seen) => {
+            here.seen = seen;
+            Ok(Checking::On(walk))
+        }
         // No memory holds so many bytes.
         None => Err(AllocError),
     }
@@ -106,15 +104,15 @@ pub(crate) fn check_node<S: Space + Drop>(
     node: Node<S::Label, S::Reason>,
     part: Part,
 ) -> Result<Checking<S, S::State, S::Label, S::Reason>, AllocError>
-    requires { (walk : Walk S S.State S.Label S.Reason) → check ≡ Checking.On walk →
-        (root : S.State) × (nodes : List (Node S.Label S.Reason)) × (wanted : ℕ) ×
-        IsOpenWalk (S.steps walk.space) (S.is_own walk.space) walk root nodes wanted }
-    ensures on { (walk : Walk S S.State S.Label S.Reason) → check ≡ Checking.On walk →
+    requires { (walk : Box (Walk S S.State S.Label S.Reason) Global) → check ≡ Checking.On walk →
+        OpenAt S.steps S.is_own walk.value }
+    ensures on { (walk : Box (Walk S S.State S.Label S.Reason) Global) →
+        check ≡ Checking.On walk →
+        let space = walk.value.space in
         IfOk result (λ after. (root : S.State) (nodes : List (Node S.Label S.Reason))
         (wanted : ℕ) →
-        IsOpenWalk (S.steps walk.space) (S.is_own walk.space) walk root nodes wanted →
-        Follows (S.steps walk.space) (S.is_own walk.space) walk.space root part
-        (nodes ++ node ∷ []) after) }
+        IsOpenWalk (S.steps space) (S.is_own space) walk.value root nodes wanted →
+        Follows (S.steps space) (S.is_own space) space root part (nodes ++ node ∷ []) after) }
     ensures off { (fault : Part) (i : ℕ) → check ≡ Checking.Off fault i →
         IfOk result (λ after. after ≡ Checking.Off fault i) }
 {

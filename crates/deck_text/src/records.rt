@@ -17,27 +17,19 @@ use std::marker::Model;
 /// The records of a table after its header, seen as the list of those that are left.
 #[derive(Drop)]
 pub struct Records<'a> {
-    reader: Reader<&'a [u8]>,
+    // A reader holds 8 KiB: from row to row only the pointer to it is moved.
+    reader: Box<Reader<&'a [u8]>>,
 }
 
 impl<'a> Model for Records<'a> {
-    ghost use Rattle.std.specs.Prelude.{◌≡◌, ℕ, List, [], Some, IsSome, true, false, unwrap_or};
-    ghost use Rattle.std.specs.Borrow.{Bor};
-    ghost use Rattle.csv.specs.Machine.{ends_at_end};
-    ghost use Rattle.csv.specs.Reading.{default_config, source_of, reader_config, reader_trim, is_flexible, took_first, expected_len, reader_state};
-    ghost use Rattle.csv.specs.declared.reader.Trim.TheVariants as trim;
-    ghost use Rattle.deck_text.specs.Left.{left_of};
+    ghost use Rattle.std.specs.Prelude.{List, ℕ};
+    ghost use Rattle.deck_text.specs.Left.{IsOpen, left_in};
 
     ghost Value = { List (List (List ℕ)) };
 
-    ghost view = { λ a. left_of (reader_state a.reader) (unwrap_or (source_of
-        (λ (s : Bor (List ℕ)). Some s.now) a.reader) []) };
+    ghost view = { λ a. left_in a.reader.value };
 
-    ghost invariant = { λ a. (reader_config a.reader ≡ default_config) ×
-        (reader_trim a.reader ≡ trim.None) × (is_flexible a.reader ≡ false)
-        × (took_first a.reader ≡ true) × (expected_len a.reader ≡ Some 3)
-        × (ends_at_end (reader_state a.reader) ≡ false)
-        × IsSome (source_of (λ (s : Bor (List ℕ)). Some s.now) a.reader) };
+    ghost invariant = { λ a. IsOpen a.reader.value };
 }
 
 /// Field `i` of a record, or nothing past its end.
@@ -94,7 +86,10 @@ impl<'a> Records<'a> {
         match reader.read_byte_record(&mut fields) {
             Ok(true) => {
                 if is_header(&fields, first, second, third) {
-                    Ok(Records { reader })
+                    match Box::new(alloc, reader) {
+                        Ok(reader) => Ok(Records { reader }),
+                        Err(_) => Err(CsvFail::Memory),
+                    }
                 } else {
                     Err(CsvFail::Fault(CsvFault::NotCsv(1)))
                 }

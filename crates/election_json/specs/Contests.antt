@@ -23,8 +23,8 @@ contest_entry earlier i value = do
   contest ← object (at.Contest i) value
   id ← member (codes "id") (at.ContestId i) contest >>= new_id earlier (at.ContestId i)
   limit ← member (codes "limit") (at.Limit i) contest >>= number 1 MOST_VOTES (at.Limit i)
-  given ← member (codes "targets") (at.Targets i) contest
-  values ← array 1 MOST_IN_CONTEST (at.Targets i) given
+  values ← member (codes "targets") (at.Targets i) contest
+      >>= array 1 MOST_IN_CONTEST (at.Targets i)
   targets ← each (target_entry i) values
   Ok (record { id = id; limit = limit; targets = targets })
 

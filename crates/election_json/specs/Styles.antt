@@ -69,8 +69,8 @@ unfoldable pub style_entry : List ContestEntry → List (List ℕ) → ℕ → D
 style_entry contests earlier i value = do
   style ← object (at.Style i) value
   id ← member (codes "id") (at.StyleId i) style >>= new_id earlier (at.StyleId i)
-  given ← member (codes "contests") (at.StyleContests i) style
-  values ← array 1 MOST_CONTESTS (at.StyleContests i) given
+  values ← member (codes "contests") (at.StyleContests i) style
+      >>= array 1 MOST_CONTESTS (at.StyleContests i)
   chosen ← each (next_chosen contests i) values
   of_few_targets (at.Style i) (style_with id chosen)
 

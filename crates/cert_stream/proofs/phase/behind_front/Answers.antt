@@ -1,4 +1,4 @@
-use Rattle.std.proofs.Common.{ℕ, List, None, subst}
+use Rattle.std.proofs.Common.{ℕ, None, subst}
 use Rattle.std.specs.Prelude.{Option}
 use Rattle.cert_stream.specs.Left.{deck_left}
 use Rattle.cert_stream.specs.Phases.{head_of}

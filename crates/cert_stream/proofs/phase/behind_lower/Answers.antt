@@ -7,7 +7,7 @@ use Rattle.cert_fields.specs.TreeReading.{wanted_after}
 use Rattle.cert_types.specs.declared.part.Part.{Part}
 use Rattle.cert_types.specs.LowerPart.{LowerPart}
 use Rattle.cert_check.specs.Answers.{ArePartsAnswer}
-use Rattle.cert_stream.specs.Left.{Parts, deck_node_at, end_left}
+use Rattle.cert_stream.specs.Left.{deck_node_at, end_left}
 use Rattle.cert_stream.specs.Phases.{head_of}
 use Rattle.cert_stream.specs.Stands.{lower_of}
 use Rattle.cert_stream.proofs.Nodes.{deck_node_shorter, tree_done}

@@ -7,7 +7,7 @@ use Rattle.cert_types.specs.declared.part.Part.{Part}
 use Rattle.cert_types.specs.declared.proved.Proved.{Proved}
 use Rattle.cert_types.specs.Fitting.{lower_size}
 use Rattle.cert_check.specs.Answers.{IsDeckAnswer}
-use Rattle.cert_stream.specs.Left.{Parts, evade_node_at, lower_part_left}
+use Rattle.cert_stream.specs.Left.{evade_node_at, lower_part_left}
 use Rattle.cert_stream.specs.Phases.{head_of}
 use Rattle.cert_stream.proofs.Nodes.{evade_node_shorter, tree_done}
 use Rattle.cert_stream.proofs.Trees.{robust_ends}

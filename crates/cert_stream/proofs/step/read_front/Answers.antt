@@ -1,4 +1,4 @@
-use Rattle.std.proofs.Common.{◌≡◌, ◌∙◌, ◌++◌, ◌+◌, ◌<◌, ℕ, List, length, Option, None, ap, sym, arith, length-append}
+use Rattle.std.proofs.Common.{◌≡◌, ℕ, List, length, Option, None, ap, arith, length-append}
 use Rattle.std.specs.Borrow.{Bor}
 use Rattle.std.proofs.lemmas.Result.{err_from_is_err_and}
 use Rattle.cert_fields.specs.declared.fault.CertFault.TheVariants.{NotACertificate}
@@ -34,7 +34,7 @@ pub returns-clause-moves : goal.returns-clause-moves
 returns-clause-moves c all reads =
     let held = c.args.bytes.now in
     let r : Reads all held all_of = reads_so all held whole_at all_of whole_is reads in
-    c.behind_front.ensures.stands c.in_ok-front.rest.now all
+    c.in_ok-phase.ensures.stands c.in_ok-front.rest.now all
     (reads_field front_at behind all held r _ c.in_ok-front.rest.now front_settles c.in_ok-front.ensures.read)
 
 pub returns-clause-tail : goal.returns-clause-tail
@@ -43,4 +43,4 @@ returns-clause-tail c = let t = front_settles.tail c.args.bytes.now _ c.in_ok-fr
 pub returns-clause-shorter : goal.returns-clause-shorter
 returns-clause-shorter c =
     let t = front_settles.tail c.args.bytes.now _ c.in_ok-front.rest.now c.in_ok-front.ensures.read in
-    omega (arith, ap length t.1, length-append t.0 c.in_ok-front.rest.now, t.2, c.behind_front.ensures.rank)
+    omega (arith, ap length t.1, length-append t.0 c.in_ok-front.rest.now, t.2, c.in_ok-phase.ensures.rank)

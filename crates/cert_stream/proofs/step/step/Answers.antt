@@ -1,4 +1,4 @@
-use Rattle.std.proofs.Common.{◌≡◌, ◌+◌, ◌<◌, ℕ, true, false, length, IfOk, Err, sym, subst}
+use Rattle.std.proofs.Common.{◌≡◌, ◌+◌, ◌<◌, true, false, length, IfOk, Err, sym, subst}
 use Rattle.std.specs.Prelude.{◌==◌}
 use Rattle.cert_fields.specs.declared.fault.CertFault.TheVariants.{NotACertificate}
 use Rattle.cert_stream.specs.declared.phase.Phase.{Phase}

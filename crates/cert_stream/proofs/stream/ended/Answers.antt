@@ -1,4 +1,4 @@
-use Rattle.std.proofs.Common.{ℕ, List, [], subst}
+use Rattle.std.proofs.Common.{[], subst}
 use Rattle.cert_stream.specs.declared.phase.Phase.{Phase}
 use Rattle.cert_stream.specs.Stands.{StandsAt}
 use Rattle.cert_stream.proofs.stream.ended.Goals as goal

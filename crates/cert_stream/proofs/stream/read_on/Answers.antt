@@ -1,8 +1,8 @@
-use Rattle.std.proofs.Common.{◌≡◌, ◌≤◌, ℕ, List, [], Bool, not, true, false, length, length-append, ap, refl, sym, subst, ◌∙◌, Err, arith}
+use Rattle.std.proofs.Common.{◌≡◌, [], Bool, false, length, length-append, ap, refl, sym, subst, ◌∙◌, Err, arith}
 use Rattle.std.proofs.lemmas.Result.{err_from_is_err_and}
 use Rattle.cert_fields.specs.declared.fault.CertFault.{CertFault}
 use Rattle.cert_fields.specs.declared.fault.CertFault.TheVariants.{NotACertificate}
-use Rattle.cert_stream.specs.Phases.{most_of, waits}
+use Rattle.cert_stream.specs.Phases.{waits}
 use Rattle.cert_stream.proofs.Ends.{not_ended, not_waiting, tail_on}
 use Rattle.cert_stream.proofs.stream.read_on.Goals as goal
 

@@ -1,12 +1,11 @@
-use Rattle.std.proofs.Common.{◌≡◌, ◌∙◌, ◌++◌, ◌∷◌, [], ℕ, suc, true, false, List, length, take, reverse, Some, sym, ap, subst, arith, length-append}
+use Rattle.std.proofs.Common.{◌≡◌, ◌∙◌, ◌++◌, ◌∷◌, [], ℕ, suc, true, false, length, take, reverse, Some, sym, ap, subst, arith, length-append}
 use Rattle.std.proofs.lemmas.List.{length-take}
 use Rattle.std.proofs.lemmas.Option.{same_Some}
 use Rattle.std.specs.Prelude.{slice_get}
 use Rattle.std.specs.List.{range_with_len}
-use Rattle.tree_core.specs.declared.node.Node.{Node}
 use Rattle.tree_core.specs.Checks.{NodeHolds}
 use Rattle.tree_core.specs.Places.{after}
-use Rattle.tree_core.specs.Walk.{Stands, Lands, places_of}
+use Rattle.tree_core.specs.Walk.{places_of}
 use Rattle.cert_stream.proofs.Forks.{stands_push, lands_cut, below-reverse, holds_more, get-last, places_are, few-places}
 use Rattle.cert_stream.proofs.walk.visit.Goals as goal
 

@@ -1,10 +1,8 @@
-use Rattle.std.proofs.Common.{◌≡◌, ◌∙◌, ap, sym, subst, refl, length, ℕ, List, [], Err, arith}
+use Rattle.std.proofs.Common.{◌≡◌, ap, sym, subst, length, ℕ, List, [], Err}
 use Rattle.std.proofs.lemmas.List.{nil_from_length}
 use Rattle.std.proofs.lemmas.Result.{err_from_is_err_and}
 use Rattle.cert_fields.specs.declared.fault.CertFault.{CertFault}
 use Rattle.cert_fields.specs.declared.fault.CertFault.TheVariants.{NotACertificate}
-use Rattle.cert_stream.specs.declared.phase.Phase.{Phase}
-use Rattle.cert_stream.specs.declared.phase.Phase.TheVariants.{Done}
 use Rattle.cert_stream.specs.Stands.{Held, StandsAt, StandsFor}
 use Rattle.cert_stream.proofs.Ends.{none_is, ends_done}
 use Rattle.cert_stream.proofs.stream.StreamCheck.end.Goals as goal
