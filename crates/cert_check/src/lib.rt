@@ -14,6 +14,3 @@ mod rules;
 pub use cert::check_cert;
 pub use law::faults_exclude_holding;
 pub use open_file::check_open_file;
-
-#[cfg(test)]
-mod tests;

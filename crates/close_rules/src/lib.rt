@@ -21,6 +21,3 @@ pub use label::Label;
 pub use law::{complete_is_judged, kids_share_solutions, refuted_is_empty};
 pub use reason::Reason;
 pub use refuting::refutes;
-
-#[cfg(test)]
-mod tests;

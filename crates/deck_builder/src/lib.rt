@@ -11,6 +11,3 @@ mod runs;
 
 pub use law::{marks_are_spread, patterns_obey, working_ballots_are_counted};
 pub use proposal::propose;
-
-#[cfg(test)]
-mod tests;

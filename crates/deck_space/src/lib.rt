@@ -8,6 +8,3 @@ mod law;
 pub use allowing::is_allowed;
 pub use decks::Decks;
 pub use law::{checked_tree_leaves_no_good_deck, padding_keeps_good, shown_solution_is_value};
-
-#[cfg(test)]
-mod tests;

@@ -24,6 +24,3 @@ mod usage;
 mod woven_deck;
 
 pub use repair::weave;
-
-#[cfg(test)]
-mod tests;

@@ -11,6 +11,3 @@ pub use column_sets::{columns, push_bit};
 pub use deck::Deck;
 pub use plain::plain_size;
 pub use row::Row;
-
-#[cfg(test)]
-mod tests;

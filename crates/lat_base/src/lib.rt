@@ -25,6 +25,3 @@ pub use names0::Names0;
 pub use rules::{RuleFault, Rules};
 pub use shape::Shape;
 pub use shape_fault::ShapeFault;
-
-#[cfg(test)]
-mod tests;

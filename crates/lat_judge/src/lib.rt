@@ -6,6 +6,3 @@ mod law;
 
 pub use judging::{Judged, judge};
 pub use law::robust_decks_show_misassignments;
-
-#[cfg(test)]
-mod tests;

@@ -7,6 +7,3 @@ mod misassignment;
 
 pub use fault::MisFault;
 pub use misassignment::Misassignment;
-
-#[cfg(test)]
-mod tests;

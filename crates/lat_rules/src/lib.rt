@@ -7,6 +7,3 @@ mod obeyed;
 
 pub use broken::Broken;
 pub use obeyed::obeys;
-
-#[cfg(test)]
-mod tests;

@@ -14,6 +14,3 @@ pub use reports::report;
 pub use same_report::leaves_report;
 pub use totals::{mark_count, total, total_under};
 pub use wanted_report::gives_report;
-
-#[cfg(test)]
-mod tests;

@@ -10,6 +10,3 @@ pub use law::good_restricted;
 pub use part_fault::PartFault;
 pub use parts::part;
 pub use restriction::restrict;
-
-#[cfg(test)]
-mod tests;

@@ -9,6 +9,3 @@ mod worked;
 
 pub use sample::Sample;
 pub use samples::{Samples, sample_rules};
-
-#[cfg(test)]
-mod tests;

@@ -13,6 +13,3 @@ mod target_order;
 pub use canonical_copy::canonical;
 pub use canonical_order::is_canonical;
 pub use law::{good_has_canonical, plain_is_canonical, reordering_keeps_good};
-
-#[cfg(test)]
-mod tests;

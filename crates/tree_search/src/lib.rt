@@ -12,6 +12,3 @@ pub use chooser::Chooser;
 pub use outcome::Outcome;
 pub use pick::Pick;
 pub use searching::search;
-
-#[cfg(test)]
-mod tests;
