@@ -1,5 +1,6 @@
 ghost use Rattle.std.specs.Prelude.{◌≡◌, ◌<◌, ◌≤◌, ◌-◌, length, slice_get, IfOk};
 ghost use Rattle.lat_base.specs.Shape.{target_count, contest_at};
+ghost use Rattle.lat_base.specs.declared.limits.TheConstants.{MOST_BALLOTS};
 ghost use Rattle.deck_state.specs.Tally.{level_of};
 ghost use Rattle.deck_state.specs.PartialDeck.{PartialDeck, mark_at, row_at, bounds_at, empty};
 ghost use Rattle.deck_state.specs.Trail.{IsPartial};
@@ -58,7 +59,7 @@ impl Partial {
     /// `k` ballots of which nothing is decided; each total is from 0 to `k`. The room for all steps
     /// is taken here, so no other call takes memory.
     pub fn open(alloc: Global, shape: &Shape, rules: &Rules, k: u16) -> Result<Partial, AllocError>
-        requires { k ≤ 1024 }
+        requires { k ≤ MOST_BALLOTS }
         ensures empty { IfOk result (λ p. p ≡ empty shape.now rules.now k) }
         ensures partial { IfOk result (λ p. IsPartial p) }
     {

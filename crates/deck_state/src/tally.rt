@@ -1,5 +1,6 @@
 ghost use Rattle.std.specs.Prelude.{◌≡◌, ◌<◌, ◌≤◌, [], length, get_or, IfOk, replicate};
 ghost use Rattle.lat_base.specs.Shape.{target_count, contest_at};
+ghost use Rattle.lat_base.specs.declared.limits.TheConstants.{MOST_BALLOTS};
 ghost use Rattle.deck_state.specs.Sheet.{MarkSheet, sheet_with, count_of, votes_of};
 ghost use Rattle.deck_state.specs.Tally.{level_of};
 
@@ -34,7 +35,7 @@ impl Model for Tally {
 impl Tally {
     /// `k` ballots of which nothing is decided.
     pub fn blank(alloc: Global, shape: &Shape, k: u16) -> Result<Tally, AllocError>
-        requires { k ≤ 1024 }
+        requires { k ≤ MOST_BALLOTS }
         ensures { let undecided = replicate k (replicate (target_count shape.now) Mark.Undecided) in
             IfOk result (λ sheet. sheet ≡ record { contests = shape.now; marks = undecided }) }
     {

@@ -1,5 +1,6 @@
 ghost use Rattle.std.specs.Prelude.{◌≡◌, ◌≤◌, ◌++◌, replicate, length, IfOk, OnOk, All};
 ghost use Rattle.lat_base.specs.Shape.{target_count};
+ghost use Rattle.lat_base.specs.declared.limits.TheConstants.{MOST_BALLOTS};
 ghost use Rattle.lat_ballots.specs.Deck.{AreRows};
 ghost use Rattle.lat_ballots.specs.Plain.{plain_ballots, plain_size};
 
@@ -35,7 +36,7 @@ impl Deck {
     /// each next; then `blank` ballots with no mark.
     #[tactic(auto, using(crate::proofs::PlainDeck::built_first, crate::proofs::PlainDeck::built_more))]
     pub fn plain(alloc: Global, shape: &Shape, rules: &Rules) -> Result<Deck, AllocError>
-        requires { plain_size (target_count shape.now) rules.now ≤ 1024 }
+        requires { plain_size (target_count shape.now) rules.now ≤ MOST_BALLOTS }
         ensures plain { IfOk result (λ deck. deck
             ≡ plain_ballots (target_count shape.now) rules.now) }
         ensures size { IfOk result (λ deck. length deck.ballots

@@ -2,6 +2,7 @@ ghost use Rattle.std.specs.Prelude.{◌≡◌, ◌≢◌, ◌<◌, ◌≤◌, �
 ghost use Rattle.std.specs.List.{list_any};
 ghost use Rattle.lat_base.specs.Shape.{contest_at, target_count};
 ghost use Rattle.lat_base.specs.Misassignment.{IsMisassignment, identity, source};
+ghost use Rattle.lat_base.specs.declared.limits.TheConstants.{MOST_TARGETS};
 ghost use Rattle.lat_misassign.specs.Sources.{AreSources, contests_exchanged};
 ghost use Rattle.lat_misassign.specs.SourceFault.{source_fault};
 
@@ -31,7 +32,7 @@ impl Model for Misassignment {
 
 // The first place whose source isn't below the length or stood before.
 fn find_fault(sources: &[u16]) -> Option<MisFault>
-    requires { length sources.now ≤ 256 }
+    requires { length sources.now ≤ MOST_TARGETS }
     ensures { result ≡ source_fault sources.now }
 {
     for (i, source) in sources.iter().enumerate() {
@@ -50,7 +51,7 @@ impl Misassignment {
     #[tactic(auto, using(crate::proofs::Identity::identity_sources, lemmas::proofs::Ranges::range_more))]
     pub fn identity(alloc: Global, n: u16) -> Result<Misassignment, AllocError>
         requires some { 1 ≤ n }
-        requires few { n ≤ 256 }
+        requires few { n ≤ MOST_TARGETS }
         ensures { IfOk result (λ s. s ≡ identity n) }
     {
         let mut sources = Vec::with_capacity(alloc, usize::from(n))?;
@@ -65,7 +66,7 @@ impl Misassignment {
     #[tactic(auto, using(crate::proofs::Valid::valid_sources, crate::proofs::Valid::faulty))]
     pub fn from_sources(alloc: Global, sources: &[u16]) -> Result<Misassignment, MisFault>
         requires some { 1 ≤ length sources.now }
-        requires few { length sources.now ≤ 256 }
+        requires few { length sources.now ≤ MOST_TARGETS }
         ensures ok { IfOk result (λ s. s ≡ sources.now) }
         ensures valid { OnOk result (IsMisassignment (length sources.now) sources.now) }
         ensures refused { (f : MisFault) → f ≢ MisFault.Memory → result ≡ Err f
@@ -93,7 +94,7 @@ impl Misassignment {
     /// The exchange of the targets `t` and `u`, of `n` targets in all.
     #[tactic(auto, using(crate::proofs::Identity::identity_long, crate::proofs::Swaps::sources_swapped))]
     pub fn swap(alloc: Global, n: u16, t: u16, u: u16) -> Result<Misassignment, AllocError>
-        requires few { n ≤ 256 }
+        requires few { n ≤ MOST_TARGETS }
         requires first { t < n }
         requires second { u < n }
         ensures { IfOk result (λ s. s ≡ swap (identity n) t u) }

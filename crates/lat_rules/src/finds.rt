@@ -3,7 +3,9 @@ ghost use Rattle.std.specs.List.{range_with_len};
 ghost use Rattle.lat_base.specs.Shape.{target_count};
 ghost use Rattle.lat_base.specs.Rules.{is_blank};
 ghost use Rattle.lat_ballots.specs.Deck.{ballot_at};
-ghost use Rattle.lat_rules.specs.Broken.{blank_count, over_count, first_broken, broken_blank, broken_over, broken_least, broken_pair, broken_equal, broken_distinct};
+ghost use Rattle.lat_rules.specs.Broken.{blank_count, over_count, first_broken, broken_blank};
+ghost use Rattle.lat_rules.specs.Broken.{broken_over, broken_least, broken_pair, broken_equal};
+ghost use Rattle.lat_rules.specs.Broken.{broken_distinct};
 
 use crate::Broken;
 use lat_ballots::Deck;

@@ -1,5 +1,6 @@
 ghost use Rattle.std.specs.Prelude.{◌≡◌, ◌<◌, ◌≤◌, length};
 ghost use Rattle.lat_base.specs.Shape.{target_count};
+ghost use Rattle.lat_base.specs.declared.limits.TheConstants.{MOST_TARGETS};
 ghost use Rattle.lat_ballots.specs.Deck.{ballot_at};
 ghost use Rattle.lat_tabulate.specs.Lost.{marks_of, mark_total, votes_below, lost_marks};
 
@@ -11,7 +12,7 @@ use lat_base::Shape;
 fn count_ballot(deck: &Deck, j: u16) -> u32
     requires { j < length deck.now.ballots }
     ensures marks { result ≡ marks_of (ballot_at deck.now j) }
-    ensures few { result ≤ 256 }
+    ensures few { result ≤ MOST_TARGETS }
 {
     let _ballots = deck.ballots();
     let mut marks: u32 = 0;
