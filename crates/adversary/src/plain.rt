@@ -2,6 +2,7 @@ ghost use Rattle.std.specs.Prelude.{◌≡◌, ◌+◌, ◌≤◌, ℕ, length, 
 ghost use Rattle.std.specs.List.{range_with_len};
 ghost use Rattle.lat_base.specs.Shape.{target_count};
 ghost use Rattle.lat_base.specs.Goodness.{IsRobust};
+ghost use Rattle.lat_base.specs.declared.limits.TheConstants.{MOST_BALLOTS};
 ghost use Rattle.lat_ballots.specs.Plain.{plain_ballots, plain_size};
 ghost use Rattle.evade_space.specs.Trees.{IsRobustTree};
 
@@ -19,7 +20,7 @@ pub fn plain_robust(
     shape: &Shape,
     rules: &Rules,
 ) -> Result<Tree<u16, Skipped>, AllocError>
-    requires { plain_size (target_count shape.now) rules.now ≤ 1024 }
+    requires { plain_size (target_count shape.now) rules.now ≤ MOST_BALLOTS }
     ensures tree { IfOk result (IsRobustTree shape.now
         (plain_ballots (target_count shape.now) rules.now).ballots) }
     ensures rising { IfOk result (λ tree. take (target_count shape.now) tree

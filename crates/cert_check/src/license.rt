@@ -1,5 +1,6 @@
 ghost use Rattle.std.specs.Prelude.{◌≡◌, ◌≤◌, ◌↔◌, IfOk, IsTrue};
 ghost use Rattle.lat_base.specs.Shape.{target_count};
+ghost use Rattle.lat_base.specs.declared.limits.TheConstants.{MOST_BALLOTS};
 ghost use Rattle.cert_types.specs.License.{IsAttackedDeck};
 ghost use Rattle.cert_check.specs.Answers.{HasTargets, IsLicenseAnswer, IsOpenTreeAnswer};
 
@@ -31,7 +32,7 @@ fn open_tree_fault(
     from: u16,
     tree: &Tree<Label, Reason>,
 ) -> Result<Option<u64>, AllocError>
-    requires { from ≤ 1024 }
+    requires { from ≤ MOST_BALLOTS }
     ensures { IfOk result (IsOpenTreeAnswer shape.now rules.now from tree.now) }
 {
     tree.lists_a_tree();
@@ -51,7 +52,7 @@ pub(crate) fn license_fault(
     from: u16,
     license: &License,
 ) -> Result<Option<u64>, AllocError>
-    requires few { from ≤ 1024 }
+    requires few { from ≤ MOST_BALLOTS }
     requires targets { HasTargets shape.now license.now }
     ensures { IfOk result (IsLicenseAnswer shape.now rules.now from license.now) }
 {

@@ -1,5 +1,6 @@
 ghost use Rattle.std.specs.Prelude.{◌≡◌, ◌≤◌, IfOk};
 ghost use Rattle.lat_base.specs.Part.{IsPart, part};
+ghost use Rattle.lat_base.specs.declared.limits.TheConstants.{MOST_BALLOTS};
 ghost use Rattle.cert_check.specs.Answers.{IsLowerAnswer};
 
 use cert_types::Lower;
@@ -33,7 +34,7 @@ pub(crate) fn lower_fault(
     lower: &Lower,
 ) -> Result<Option<u64>, AllocError>
     requires part { IsPart shape.now lower.now.contests }
-    requires few { lower.now.size ≤ 1024 }
+    requires few { lower.now.size ≤ MOST_BALLOTS }
     ensures { IfOk result (IsLowerAnswer shape.now rules.now lower.now) }
 {
     lower.tree.lists_a_tree();

@@ -2,6 +2,7 @@ ghost use Rattle.std.specs.Prelude.{◌≡◌, ◌≤◌, IfOk, IfSome, Ok, None
 ghost use Rattle.lat_base.specs.Goodness.{IsGood};
 ghost use Rattle.lat_base.specs.Part.{IsPart};
 ghost use Rattle.lat_base.specs.Shape.{target_count};
+ghost use Rattle.lat_base.specs.declared.limits.TheConstants.{MOST_BALLOTS};
 ghost use Rattle.cert_check.specs.Answers.{IsDeckAnswer, IsLowerPartAnswer, ArePartsAnswer};
 
 use crate::lower::lower_fault;
@@ -41,7 +42,7 @@ fn lower_part_fault(
     lower: Option<&Lower>,
 ) -> Result<Option<u64>, AllocError>
     requires { IfSome (option_map (λ l. l.now) lower)
-        (λ l. IsPart shape.now l.contests × (l.size ≤ 1024)) }
+        (λ l. IsPart shape.now l.contests × (l.size ≤ MOST_BALLOTS)) }
     ensures { IfOk result
         (IsLowerPartAnswer shape.now rules.now (option_map (λ l. l.now) lower.entry)) }
 {
@@ -66,7 +67,7 @@ pub(crate) fn parts_fault(
     requires deck { IfSome (option_map (λ p. p.now) proved)
         (λ p. p.deck.targets ≡ target_count shape.now) }
     requires lower { IfSome (option_map (λ l. l.now) lower)
-        (λ l. IsPart shape.now l.contests × (l.size ≤ 1024)) }
+        (λ l. IsPart shape.now l.contests × (l.size ≤ MOST_BALLOTS)) }
     ensures answer { IfOk result (ArePartsAnswer shape.now rules.now
         (option_map (λ p. p.now) proved.entry) (option_map (λ l. l.now) lower.entry)) }
     ensures good { result ≡ Ok None → IfSome (option_map (λ p. p.now) proved.entry)

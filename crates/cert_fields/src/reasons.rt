@@ -1,4 +1,5 @@
 ghost use Rattle.std.specs.Prelude.{◌≡◌, ◌≤◌, ◌∷◌, ◌++◌, OnOk, OnErr, take, length, flat_map};
+ghost use Rattle.lat_base.specs.declared.limits.TheConstants.{MOST_TARGETS};
 ghost use Rattle.cert_fields.specs.Spelling.{u16_text, Takes};
 ghost use Rattle.lat_misassign.specs.Sources.{AreSources};
 ghost use Rattle.cert_fields.specs.Reading.{Gives};
@@ -87,7 +88,7 @@ pub(crate) fn reason_of(alloc: Global, bytes: &[u8]) -> Result<(Reason, &[u8]), 
 
 // Appends the number of sources and the sources; after want of memory perhaps only the first ones.
 fn append_sources(out: &mut Vec<u8>, sources: &[u16]) -> Result<(), AllocError>
-    requires { length sources.now ≤ 256 }
+    requires { length sources.now ≤ MOST_TARGETS }
     ensures ok { OnOk result (out.new.items ≡ out.old.items ++
         11 ∷ (u16_text (length sources.now) ++ flat_map u16_text sources.now)) }
     ensures kept { take (length out.old.items) out.new.items ≡ out.old.items }

@@ -1,7 +1,8 @@
 ghost use Rattle.std.specs.Prelude.{◌≡◌, ◌≤◌, ◌<◌, ◌*◌, ◌/◌, ◌↔◌, ℕ, length, get_or, take, Option};
-ghost use Rattle.std.specs.Prelude.{Result, Ok, Err, IfOk, OnOk, OnErr, IsTrue, MatchResult};
+ghost use Rattle.std.specs.Prelude.{Result, Ok, Err, IfOk, OnErr, IsTrue, MatchResult};
 ghost use Rattle.std.specs.Prelude.{slice_set, List, Bool};
 ghost use Rattle.lat_base.specs.Shape.{target_count};
+ghost use Rattle.lat_base.specs.declared.limits.TheConstants.{MOST_BALLOTS};
 ghost use Rattle.lat_ballots.specs.Deck.{Ballots, ballot_at};
 ghost use Rattle.cert_fields.specs.Reading.{Gives};
 ghost use Rattle.cert_fields.specs.Rows.{row_text, rows_text, row_size, is_bit, marks_of, row_at};
@@ -50,15 +51,17 @@ fn is_row(deck: &Deck, j: u16, bytes: &[u8]) -> bool
     true
 }
 
-/// Reads the row of ballot `j` into the deck, and gives the bytes behind it.
+/// Reads the row of ballot `j`, a bit for each target, into the deck, and gives the bytes behind it.
+/// The other ballots stay as they are, also where the bytes are refused. The only error is
+/// `NotACertificate`: the bytes end before the row does, or bits past the last target are set.
 #[tactic(auto, unfolding(crate::specs::Rows::row_at))]
 pub fn row_of<'a>(deck: &mut Deck, j: u16, bytes: &'a [u8]) -> Result<&'a [u8], CertFault>
     requires { j < length deck.old.ballots }
     ensures read { Gives (λ rest. (ballot_at deck.new j, rest.now)) result
         (row_at deck.old.targets bytes.now) }
-    ensures deck { OnOk result (deck.new ≡ record deck.old {
+    ensures deck { deck.new ≡ record deck.old {
       ballots = slice_set deck.old.ballots j (ballot_at deck.new j);
-    }) }
+    } }
 {
     let size = row_size(deck.targets()) as usize;
     if bytes.len() < size {
@@ -79,7 +82,7 @@ pub fn rows_of<'a>(
     shape: &Shape,
     k: u16,
 ) -> Result<(Deck, &'a [u8]), CertFault>
-    requires { k ≤ 1024 }
+    requires { k ≤ MOST_BALLOTS }
     ensures read { Gives (λ x. (x.0.ballots, x.1.now)) result
         (rows_at (target_count shape.now) k bytes.now) }
     ensures targets { IfOk result (λ x. x.0.targets ≡ target_count shape.now) }
@@ -99,7 +102,7 @@ pub fn take_rows(
     shape: &Shape,
     k: u16,
 ) -> Result<(Deck, usize), CertFault>
-    requires { k ≤ 1024 }
+    requires { k ≤ MOST_BALLOTS }
     ensures { Takes (IsDeckOf (target_count shape.now) k) deck_text result bytes.now }
 {
     match rows_of(alloc, bytes, shape, k) {

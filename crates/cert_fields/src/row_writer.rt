@@ -1,4 +1,5 @@
 ghost use Rattle.std.specs.Prelude.{◌≡◌, ◌≤◌, ◌<◌, ◌+◌, ◌/◌, ◌++◌, OnOk, OnErr, length, take, List};
+ghost use Rattle.lat_base.specs.declared.limits.TheConstants.{MOST_TARGETS};
 ghost use Rattle.lat_ballots.specs.Deck.{ballot_at};
 ghost use Rattle.cert_fields.specs.Rows.{worth, byte_text, row_text, rows_text, row_size};
 
@@ -36,7 +37,7 @@ pub(crate) fn byte_of(deck: &Deck, j: u16, t: u16) -> u8
 
 /// How many bytes the marks of so many targets take.
 pub(crate) fn row_size(targets: u16) -> u16
-    requires { targets ≤ 256 }
+    requires { targets ≤ MOST_TARGETS }
     ensures { result ≡ row_size targets }
 {
     (targets + 7) / 8

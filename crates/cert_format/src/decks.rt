@@ -1,5 +1,6 @@
 ghost use Rattle.std.specs.Prelude.{◌≡◌, ◌≤◌, ◌++◌, ◌∷◌, OnOk, length};
 ghost use Rattle.lat_base.specs.Shape.{target_count};
+ghost use Rattle.lat_base.specs.declared.limits.TheConstants.{MOST_BALLOTS};
 ghost use Rattle.cert_fields.specs.Reading.{Gives};
 ghost use Rattle.cert_fields.specs.Spelling.{u16_text};
 ghost use Rattle.cert_types.specs.Fitting.{IsVerdict};
@@ -23,7 +24,7 @@ pub(crate) fn attacked_of<'a>(
     shape: &Shape,
     k: u16,
 ) -> Result<((Deck, Tree<u16, Skipped>), &'a [u8]), CertFault>
-    requires { k ≤ 1024 }
+    requires { k ≤ MOST_BALLOTS }
     ensures { Gives (λ x. (x.0, x.1.now)) result
         (attacked_at (target_count shape.now) k bytes.now) }
 {
@@ -39,7 +40,7 @@ fn proved_of<'a>(
     shape: &Shape,
     k: u16,
 ) -> Result<(Proved, &'a [u8]), CertFault>
-    requires { k ≤ 1024 }
+    requires { k ≤ MOST_BALLOTS }
     ensures { Gives (λ x. (x.0, x.1.now)) result (proved_at (target_count shape.now) k bytes.now) }
 {
     let ((deck, robust), rest) = attacked_of(alloc, bytes, shape, k)?;

@@ -1,5 +1,6 @@
 ghost use Rattle.std.specs.Prelude.{◌≡◌, ◌≤◌, ◌++◌, OnOk};
 ghost use Rattle.lat_base.specs.Shape.{target_count};
+ghost use Rattle.lat_base.specs.declared.limits.TheConstants.{MOST_BALLOTS};
 ghost use Rattle.cert_fields.specs.Reading.{Gives};
 ghost use Rattle.cert_format.specs.Fields.{license_text, IsLicenseField};
 ghost use Rattle.cert_format.specs.Reading.{license_at};
@@ -18,7 +19,7 @@ pub(crate) fn license_of<'a>(
     shape: &Shape,
     from: u16,
 ) -> Result<(License, &'a [u8]), CertFault>
-    requires { from ≤ 1024 }
+    requires { from ≤ MOST_BALLOTS }
     ensures { Gives (λ x. (x.0, x.1.now)) result
         (license_at (target_count shape.now) from bytes.now) }
 {

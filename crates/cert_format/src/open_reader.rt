@@ -1,4 +1,5 @@
 ghost use Rattle.std.specs.Prelude.{◌≡◌, ◌≤◌, Err, IfOk, length};
+ghost use Rattle.lat_base.specs.declared.limits.TheConstants.{MOST_BALLOTS};
 ghost use Rattle.cert_fields.specs.Reading.{Gives};
 ghost use Rattle.cert_types.specs.OpenValue.{OpenValue};
 ghost use Rattle.cert_format.specs.Files.{open_text, open_magic, IsOpen};
@@ -17,7 +18,7 @@ use std::alloc::Global;
 // The two numbers of an open file, and the bytes behind them.
 fn sizes_of(bytes: &[u8]) -> Result<((u16, u16), &[u8]), CertFault>
     ensures read { Gives (λ x. (x.0, x.1.now)) result (sizes_at bytes.now) }
-    ensures limit { IfOk result (λ x. x.0.1 ≤ 1024) }
+    ensures limit { IfOk result (λ x. x.0.1 ≤ MOST_BALLOTS) }
 {
     let (max, rest) = ballots_of(bytes, 1)?;
     let (from, rest) = limited_of(rest, 0, max)?;

@@ -1,4 +1,5 @@
 ghost use Rattle.std.specs.Prelude.{◌≡◌, ◌≤◌, ◌++◌, IfOk, OnOk, OnErr};
+ghost use Rattle.lat_base.specs.declared.limits.TheConstants.{MOST_BALLOTS};
 ghost use Rattle.cert_fields.specs.Reading.{Gives};
 ghost use Rattle.cert_types.specs.Fitting.{IsVerdict, lower_size, size_below};
 ghost use Rattle.cert_format.specs.Fields.{verdict_text};
@@ -26,8 +27,8 @@ pub(crate) fn limited_of(bytes: &[u8], least: u16, most: u16) -> Result<(u16, &[
 
 /// The number of ballots at the front, from `least` to 1,024, and the bytes behind it.
 pub fn ballots_of(bytes: &[u8], least: u16) -> Result<(u16, &[u8]), CertFault>
-    ensures read { Gives (λ x. (x.0, x.1.now)) result (limited_at least 1024 bytes.now) }
-    ensures limit { IfOk result (λ x. x.0 ≤ 1024) }
+    ensures read { Gives (λ x. (x.0, x.1.now)) result (limited_at least MOST_BALLOTS bytes.now) }
+    ensures limit { IfOk result (λ x. x.0 ≤ MOST_BALLOTS) }
 {
     limited_of(bytes, least, MOST_BALLOTS)
 }

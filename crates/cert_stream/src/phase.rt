@@ -1,6 +1,7 @@
 ghost use Rattle.std.specs.Prelude.{◌≡◌, ◌≤◌, ◌<◌, Option, IfOk, IfSome, List, length, ℕ};
 ghost use Rattle.lat_base.specs.Part.{IsPart};
 ghost use Rattle.lat_base.specs.Shape.{target_count};
+ghost use Rattle.lat_base.specs.declared.limits.TheConstants.{MOST_BALLOTS};
 ghost use Rattle.lat_ballots.specs.Deck.{Ballots};
 ghost use Rattle.tree_core.specs.declared.node.Node.{Node};
 ghost use Rattle.cert_fields.specs.TreeReading.{wanted_after};
@@ -88,7 +89,7 @@ fn lower_size(verdict: Verdict) -> Option<u16>
 /// The place behind the front.
 pub(crate) fn behind_front(alloc: Global, front: Front) -> Result<Phase, AllocError>
     requires verdict { IsVerdict front.verdict }
-    requires few { IfSome front.best (λ k. k ≤ 1024) }
+    requires few { IfSome front.best (λ k. k ≤ MOST_BALLOTS) }
     ensures phase { IfOk result IsPhase }
     ensures rank { IfOk result (λ phase. rank phase ≤ 1) }
     ensures stands { IfOk result (λ phase. (held all : List ℕ) →
@@ -161,7 +162,7 @@ pub(crate) fn behind_lower(
     ensures rank { rank result ≡ 0 }
     ensures stands { (proved : Option Proved) (chosen : List ℕ) (size : ℕ)
         (nodes : List (Node Label Reason)) (held all : List ℕ) →
-        front.best ≡ ballots_of proved → IsPart front.shape chosen → size ≤ 1024 →
+        front.best ≡ ballots_of proved → IsPart front.shape chosen → size ≤ MOST_BALLOTS →
         wanted_after 1 nodes ≡ Option.Some wanted →
         LowerSoFar front.shape front.rules proved chosen size nodes check →
         Reads all held

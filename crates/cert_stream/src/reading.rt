@@ -1,4 +1,5 @@
 ghost use Rattle.std.specs.Prelude.{◌≡◌, ◌≤◌, IfOk, IfSome};
+ghost use Rattle.lat_base.specs.declared.limits.TheConstants.{MOST_BALLOTS};
 ghost use Rattle.cert_fields.specs.Reading.{Gives};
 ghost use Rattle.cert_types.specs.Fitting.{IsVerdict};
 ghost use Rattle.cert_stream.specs.Left.{ballots_at, front_at};
@@ -15,7 +16,7 @@ use std::alloc::Global;
 fn best_of(verdict: Verdict, bytes: &[u8]) -> Result<(Option<u16>, &[u8]), CertFault>
     requires { IsVerdict verdict }
     ensures read { Gives (λ x. (x.0, x.1.now)) result (ballots_at verdict bytes.now) }
-    ensures few { IfOk result (λ x. IfSome x.0 (λ k. k ≤ 1024)) }
+    ensures few { IfOk result (λ x. IfSome x.0 (λ k. k ≤ MOST_BALLOTS)) }
 {
     match verdict {
         Verdict::Least(k) => Ok((Some(k), bytes)),
@@ -40,7 +41,7 @@ pub(crate) fn front_of(alloc: Global, bytes: &[u8]) -> Result<(Front, &[u8]), Ce
     ensures read { Gives (λ x. (((head_of x.0, x.0.verdict), x.0.best), x.1.now)) result
         (front_at bytes.now) }
     ensures verdict { IfOk result (λ x. IsVerdict x.0.verdict) }
-    ensures few { IfOk result (λ x. IfSome x.0.best (λ k. k ≤ 1024)) }
+    ensures few { IfOk result (λ x. IfSome x.0.best (λ k. k ≤ MOST_BALLOTS)) }
 {
     let rest = magic_of(bytes, b"LATCERT1".as_slice())?;
     match head_of(alloc, rest) {

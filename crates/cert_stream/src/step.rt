@@ -1,6 +1,7 @@
 ghost use Rattle.std.specs.Prelude.{◌≡◌, ◌≤◌, ◌<◌, ◌+◌, [], true, false, ℕ, List, Option, length, Err, IfOk};
 ghost use Rattle.lat_base.specs.Part.{IsPart};
 ghost use Rattle.lat_base.specs.Shape.{target_count};
+ghost use Rattle.lat_base.specs.declared.limits.TheConstants.{MOST_BALLOTS};
 ghost use Rattle.cert_types.specs.declared.proved.Proved.{Proved};
 ghost use Rattle.cert_types.specs.Fitting.{IsVerdict};
 ghost use Rattle.cert_check.specs.Answers.{IsDeckAnswer};
@@ -160,7 +161,7 @@ fn lower_check(
     size: u16,
     fault: Option<(Part, u64)>,
 ) -> Result<Checking<Decks, Partial, Label, Reason>, AllocError>
-    requires { size ≤ 1024 }
+    requires { size ≤ MOST_BALLOTS }
     ensures check { IfOk result (λ check. IsDeckCheck check 1) }
     ensures so_far { IfOk result (λ check. (proved : Option Proved) →
         IsDeckAnswer front.now.shape front.now.rules proved fault →

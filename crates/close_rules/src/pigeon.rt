@@ -1,5 +1,6 @@
 ghost use Rattle.std.specs.Prelude.{◌≡◌, ◌<◌, ◌≤◌, ◌+◌, ℕ, length, min};
 ghost use Rattle.std.specs.List.{range_with_len, sum};
+ghost use Rattle.lat_base.specs.declared.limits.TheConstants.{MOST_IN_CONTEST};
 ghost use Rattle.deck_state.specs.PartialDeck.{PartialDeck};
 ghost use Rattle.close_rules.specs.Pigeon.{rising_lists, lists_of_totals, alike_count, has_few_lists};
 
@@ -22,8 +23,8 @@ fn count_alike(state: &Partial, c: u16) -> u16
 
 // The sum of n numbers from one on: the least sum of a rising list.
 fn least_sum(from: u16, n: u16) -> u32
-    requires low { from ≤ 64 }
-    requires few { n ≤ 64 }
+    requires low { from ≤ MOST_IN_CONTEST }
+    requires few { n ≤ MOST_IN_CONTEST }
     ensures { result ≡ sum (range_with_len from n) }
 {
     let mut sum: u32 = 0;

@@ -1,4 +1,5 @@
 ghost use Rattle.std.specs.Prelude.{◌≡◌, ◌<◌, ◌≤◌, length};
+ghost use Rattle.lat_base.specs.declared.limits.TheConstants.{MOST_BALLOTS};
 ghost use Rattle.deck_state.specs.PartialDeck.{PartialDeck};
 ghost use Rattle.close_rules.specs.Totals.{is_above, least_totals, highs, most_voting, has_no_totals};
 
@@ -8,7 +9,7 @@ use deck_state::Partial;
 pub fn most_voting(state: &Partial, c: u16) -> u16
     requires { c < length state.now.contests }
     ensures value { result ≡ most_voting state.now c }
-    ensures few { result ≤ 1024 }
+    ensures few { result ≤ MOST_BALLOTS }
 {
     let rules = state.rules();
     let rest = state.ballots().saturating_sub(rules.blank());

@@ -1,5 +1,6 @@
 ghost use Rattle.std.specs.Prelude.{◌≡◌, ◌<◌, ◌≤◌, ◌-◌, length};
 ghost use Rattle.std.specs.List.{range_with_len, sum};
+ghost use Rattle.lat_base.specs.declared.limits.TheConstants.{MOST_BALLOTS, MOST_CONTESTS, MOST_IN_CONTEST, MOST_TARGETS};
 ghost use Rattle.deck_builder.specs.Pattern.{pattern, alike_before, earlier, first_count, spare, gap, is_raised};
 ghost use Rattle.deck_builder.specs.Runs.{marking_of, raise_by, marks_of};
 
@@ -10,7 +11,7 @@ use lat_base::{Rules, Shape};
 fn alike_before(shape: &Shape, c: u16) -> u16
     requires { c < length shape.now }
     ensures value { result ≡ alike_before shape.now c }
-    ensures few { result ≤ 128 }
+    ensures few { result ≤ MOST_CONTESTS }
 {
     let _contests = shape.contests();
     let contest = shape.contest(c);
@@ -25,7 +26,7 @@ fn alike_before(shape: &Shape, c: u16) -> u16
 fn earlier(shape: &Shape, mode: Mode, c: u16) -> u16
     requires { c < length shape.now }
     ensures value { result ≡ earlier mode shape.now c }
-    ensures few { result ≤ 256 }
+    ensures few { result ≤ MOST_TARGETS }
 {
     let _targets = shape.targets();
     match mode {
@@ -47,7 +48,7 @@ pub fn first_count(shape: &Shape, rules: &Rules, k: u16, turn: u32, c: u16) -> u
 /// The sum of `n` numbers from one on.
 pub fn least_sum(from: u16, n: u16) -> u32
     requires low { from ≤ 320 }
-    requires few { n ≤ 64 }
+    requires few { n ≤ MOST_IN_CONTEST }
     ensures { result ≡ sum (range_with_len from n) }
 {
     let mut sum: u32 = 0;
@@ -59,9 +60,9 @@ pub fn least_sum(from: u16, n: u16) -> u32
 
 /// How many ballots are neither wholly marked nor blank.
 pub fn working_ballots(rules: &Rules, k: u16) -> u16
-    requires { k ≤ 1024 }
+    requires { k ≤ MOST_BALLOTS }
     ensures value { result ≡ k - rules.now.over - rules.now.blank }
-    ensures few { result ≤ 1024 }
+    ensures few { result ≤ MOST_BALLOTS }
 {
     k.saturating_sub(rules.over()).saturating_sub(rules.blank())
 }
@@ -69,7 +70,7 @@ pub fn working_ballots(rules: &Rules, k: u16) -> u16
 // How many votes are left in contest c.
 fn spare(shape: &Shape, rules: &Rules, k: u16, turn: u32, c: u16) -> u32
     requires contest { c < length shape.now }
-    requires few { k ≤ 1024 }
+    requires few { k ≤ MOST_BALLOTS }
     ensures value { result ≡ spare (pattern shape.now rules.now k turn) c }
 {
     let _contests = shape.contests();
@@ -83,7 +84,7 @@ fn spare(shape: &Shape, rules: &Rules, k: u16, turn: u32, c: u16) -> u32
 // How far each count of contest c can be raised.
 fn gap(shape: &Shape, rules: &Rules, k: u16, turn: u32, c: u16) -> u16
     requires contest { c < length shape.now }
-    requires few { k ≤ 1024 }
+    requires few { k ≤ MOST_BALLOTS }
     ensures value { result ≡ gap (pattern shape.now rules.now k turn) c }
     ensures few { result ≤ 1025 }
 {
@@ -108,7 +109,7 @@ pub struct Marking {
 /// How often the targets of contest `c` are marked.
 pub fn marking_in(shape: &Shape, rules: &Rules, k: u16, turn: u32, c: u16) -> Marking
     requires contest { c < length shape.now }
-    requires few { k ≤ 1024 }
+    requires few { k ≤ MOST_BALLOTS }
     ensures value { result ≡ marking_of (pattern shape.now rules.now k turn) c }
     ensures low { result.first ≤ 320 }
     ensures near { result.gap ≤ 1025 }
@@ -135,7 +136,7 @@ fn is_raised(mode: Mode, after: u16) -> bool
 
 // By how much a count is raised after which so many of its contest come.
 fn raise(marking: Marking, after: u16) -> u16
-    requires within { after ≤ 64 }
+    requires within { after ≤ MOST_IN_CONTEST }
     requires near { marking.gap ≤ 1025 }
     ensures value { result ≡ raise_by marking after }
     ensures few { result ≤ 1025 }
@@ -151,7 +152,7 @@ fn raise(marking: Marking, after: u16) -> u16
 
 /// How often target `i` of the contest is marked.
 pub fn marks(marking: Marking, i: u16) -> u16
-    requires few { marking.targets ≤ 64 }
+    requires few { marking.targets ≤ MOST_IN_CONTEST }
     requires target { i < marking.targets }
     requires low { marking.first ≤ 320 }
     requires near { marking.gap ≤ 1025 }

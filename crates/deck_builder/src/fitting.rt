@@ -1,4 +1,5 @@
 ghost use Rattle.std.specs.Prelude.{◌≤◌, ◌<◌, ◌↔◌, length, IsTrue};
+ghost use Rattle.lat_base.specs.declared.limits.TheConstants.{MOST_BALLOTS};
 ghost use Rattle.deck_builder.specs.Pattern.{pattern, FitsContest, CanPropose};
 
 use crate::counts::{first_count, least_sum, working_ballots};
@@ -8,7 +9,7 @@ use lat_base::{Rules, Shape};
 // Whether in contest c the last count is at most the working ballots, and there are votes for all.
 fn fits_contest(shape: &Shape, rules: &Rules, k: u16, turn: u32, c: u16) -> bool
     requires contest { c < length shape.now }
-    requires few { k ≤ 1024 }
+    requires few { k ≤ MOST_BALLOTS }
     ensures { IsTrue result ↔ FitsContest (pattern shape.now rules.now k turn) c }
 {
     let _contests = shape.contests();
@@ -21,7 +22,7 @@ fn fits_contest(shape: &Shape, rules: &Rules, k: u16, turn: u32, c: u16) -> bool
 
 /// Whether there is a pattern of that number, and it fits `k` ballots.
 pub fn can_propose(shape: &Shape, rules: &Rules, k: u16, turn: u32) -> bool
-    requires { k ≤ 1024 }
+    requires { k ≤ MOST_BALLOTS }
     ensures { IsTrue result ↔ CanPropose shape.now rules.now k turn }
 {
     if turn >= PATTERNS || k < rules.over() + rules.blank() {

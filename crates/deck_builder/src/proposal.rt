@@ -1,6 +1,7 @@
 ghost use Rattle.std.specs.Prelude.{◌≡◌, ◌<◌, ◌≤◌, ◌+◌, ◌↔◌, None, length, IfOk, IfSome};
 ghost use Rattle.lat_base.specs.Rules.{Obeys};
 ghost use Rattle.lat_base.specs.Shape.{target_count};
+ghost use Rattle.lat_base.specs.declared.limits.TheConstants.{MOST_BALLOTS};
 ghost use Rattle.lat_ballots.specs.Deck.{mark_at, ballot_at};
 ghost use Rattle.deck_builder.specs.Pattern.{pattern, pattern_deck, CanPropose};
 ghost use Rattle.deck_builder.specs.Runs.{runs_of, with_ballot};
@@ -18,7 +19,7 @@ fn has_mark(runs: &[Run], rules: &Rules, shape: &Shape, k: u16, turn: u32, j: u1
     requires fits { CanPropose shape.now rules.now k turn }
     requires runs { let p = pattern shape.now rules.now k turn in
         runs.now ≡ runs_of p (target_count shape.now) }
-    requires few { k ≤ 1024 }
+    requires few { k ≤ MOST_BALLOTS }
     requires ballot { j < k }
     requires target { t < target_count shape.now }
     ensures { result ≡ mark_at (pattern_deck (pattern shape.now rules.now k turn)) j t }
@@ -48,7 +49,7 @@ fn set_ballot(
     requires fits { CanPropose shape.now rules.now k turn }
     requires runs { let p = pattern shape.now rules.now k turn in
         runs.now ≡ runs_of p (target_count shape.now) }
-    requires few { k ≤ 1024 }
+    requires few { k ≤ MOST_BALLOTS }
     requires ballot { j < k }
     requires ballots { length deck.old.ballots ≡ k }
     requires targets { deck.old.targets ≡ target_count shape.now }
@@ -63,7 +64,7 @@ fn set_ballot(
 
 // The deck of a pattern that fits.
 fn lay(alloc: Global, shape: &Shape, rules: &Rules, k: u16, turn: u32) -> Result<Deck, AllocError>
-    requires few { k ≤ 1024 }
+    requires few { k ≤ MOST_BALLOTS }
     requires fits { CanPropose shape.now rules.now k turn }
     ensures deck { IfOk result (λ deck. deck ≡ pattern_deck (pattern shape.now rules.now k turn)) }
     ensures size { IfOk result (λ deck. length deck.ballots ≡ k) }
@@ -91,7 +92,7 @@ pub fn propose(
     k: u16,
     turn: u32,
 ) -> Result<Option<Deck>, AllocError>
-    requires { k ≤ 1024 }
+    requires { k ≤ MOST_BALLOTS }
     ensures none { IfOk result (λ proposed.
         (proposed ≡ None) ↔ ¬ CanPropose shape.now rules.now k turn) }
     ensures deck { let whole = pattern_deck (pattern shape.now rules.now k turn) in

@@ -1,5 +1,6 @@
 ghost use Rattle.std.specs.Prelude.{◌≡◌, ◌<◌, ◌≤◌, ◌+◌, length, IfOk, OnOk};
 ghost use Rattle.lat_base.specs.Shape.{target_count, first_target};
+ghost use Rattle.lat_base.specs.declared.limits.TheConstants.{MOST_BALLOTS};
 ghost use Rattle.deck_builder.specs.Pattern.{pattern};
 ghost use Rattle.deck_builder.specs.Runs.{runs_of};
 
@@ -25,7 +26,7 @@ fn push_runs(
     c: u16,
 ) -> Result<(), AllocError>
     requires contest { c < length shape.now }
-    requires few { k ≤ 1024 }
+    requires few { k ≤ MOST_BALLOTS }
     requires before { let p = pattern shape.now rules.now k turn in
         runs.old.items ≡ runs_of p (first_target shape.now c) }
     ensures { let p = pattern shape.now rules.now k turn in
@@ -50,7 +51,7 @@ pub fn runs(
     k: u16,
     turn: u32,
 ) -> Result<Vec<Run>, AllocError>
-    requires { k ≤ 1024 }
+    requires { k ≤ MOST_BALLOTS }
     ensures { let p = pattern shape.now rules.now k turn in
         IfOk result (λ runs. runs.items ≡ runs_of p (target_count shape.now)) }
 {

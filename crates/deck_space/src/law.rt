@@ -3,6 +3,7 @@ ghost use Rattle.lat_base.specs.declared.contest.Contest.{Contest};
 ghost use Rattle.lat_base.specs.Goodness.{IsGood, NoGoodBelow};
 ghost use Rattle.lat_base.specs.Rules.{RuleSet};
 ghost use Rattle.lat_base.specs.Shape.{target_count, IsShape};
+ghost use Rattle.lat_base.specs.declared.limits.TheConstants.{MOST_BALLOTS};
 ghost use Rattle.close_rules.specs.declared.label.Label.{Label};
 ghost use Rattle.close_rules.specs.declared.reason.Reason.{Reason};
 ghost use Rattle.close_rules.specs.Solution.{IsSolution};
@@ -17,11 +18,11 @@ ghost use Rattle.deck_space.specs.Steps.{deck_steps, Solves};
 /// deck of `k` ballots is good, canonical or not, and none of fewer. The call does nothing.
 pub fn checked_tree_leaves_no_good_deck()
     ensures of_size { (contests : List Contest) (rules : RuleSet) (k : ℕ) (tree : Rose Label Reason)
-        → IsShape contests → k ≤ 1024 →
+        → IsShape contests → k ≤ MOST_BALLOTS →
         Checks deck_steps (empty contests rules k) tree →
         (deck : List (List Bool)) → IsGood contests rules deck → length deck ≡ k → ⊥ }
     ensures below { (contests : List Contest) (rules : RuleSet) (k : ℕ) (tree : Rose Label Reason) →
-        IsShape contests → k ≤ 1024 →
+        IsShape contests → k ≤ MOST_BALLOTS →
         Checks deck_steps (empty contests rules k) tree → NoGoodBelow contests rules (k + 1) }
 {}
 

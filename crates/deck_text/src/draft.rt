@@ -2,6 +2,7 @@ ghost use Rattle.std.specs.Prelude.{◌≡◌, ◌<◌, ◌≤◌, ◌+◌, ◌�
 ghost use Rattle.std.specs.Bool.{OnTrue, OnFalse};
 ghost use Rattle.lat_base.specs.Rules.{is_blank};
 ghost use Rattle.lat_base.specs.Shape.{target_count};
+ghost use Rattle.lat_base.specs.declared.limits.TheConstants.{MOST_BALLOTS};
 ghost use Rattle.lat_ballots.specs.Deck.{IsDeck, ballot_at, mark_at, blank_ballots};
 ghost use Rattle.deck_text.specs.DeckRead.{IsMarkOf, last_ballot, with_blank, with_last_mark, with_further, with_row};
 
@@ -42,7 +43,7 @@ impl Draft {
 
     // `most` is 1,024: a name for it keeps the proof from writing so many ballots out.
     fn with_room(alloc: Global, shape: &Shape, most: u16) -> Result<Draft, AllocError>
-        requires { most ≡ 1024 }
+        requires { most ≡ MOST_BALLOTS }
         ensures { IfOk result (λ draft. draft ≡ blank_ballots (target_count shape.now) 0) }
     {
         let whole = Deck::blank(alloc, shape, most)?;
@@ -77,7 +78,7 @@ impl Draft {
 
     // Adds a blank ballot.
     fn begin(&mut self)
-        requires { length self.old.ballots < 1024 }
+        requires { length self.old.ballots < MOST_BALLOTS }
         ensures { self.new ≡ with_blank self.old }
     {
         self.ballots += 1;
@@ -98,7 +99,7 @@ impl Draft {
     pub fn add(&mut self, number: u16, mark: Mark) -> bool
         requires number { (number ≡ length self.old.ballots + 1) ⊎
             (number ≡ length self.old.ballots) }
-        requires range { (0 < number) × (number ≤ 1024) }
+        requires range { (0 < number) × (number ≤ MOST_BALLOTS) }
         requires mark { IsMarkOf self.old.targets mark }
         ensures added { OnTrue result (with_row self.old number mark ≡ Some self.new) }
         ensures repeats { OnFalse result (with_row self.old number mark ≡ None) }

@@ -2,6 +2,7 @@ ghost use Rattle.std.specs.Prelude.{◌≡◌, ◌<◌, ◌≤◌, ◌+◌, ◌�
 ghost use Rattle.csv.specs.Records.{fields_of};
 ghost use Rattle.lat_base.specs.Names.{NamesFit};
 ghost use Rattle.lat_base.specs.Shape.{target_count};
+ghost use Rattle.lat_base.specs.declared.limits.TheConstants.{MOST_BALLOTS};
 ghost use Rattle.deck_text.specs.DeckRead.{ballot_number, mark_called, IsMarkOf, deck_row, deck_from, deck_read};
 ghost use Rattle.deck_text.specs.Faults.{Gives};
 ghost use Rattle.deck_text.specs.RowCount.{deck_rows};
@@ -21,10 +22,10 @@ use std::alloc::Global;
 
 // The number of a row's ballot, where it is that of the last ballot or one more.
 fn ballot_number(ballots: u16, field: &[u8]) -> Option<u16>
-    requires { ballots ≤ 1024 }
+    requires { ballots ≤ MOST_BALLOTS }
     ensures number { result ≡ ballot_number ballots field.now }
     ensures next { IfSome result (λ n. (n ≡ ballots + 1) ⊎ (n ≡ ballots)) }
-    ensures range { IfSome result (λ n. (0 < n) × (n ≤ 1024)) }
+    ensures range { IfSome result (λ n. (0 < n) × (n ≤ MOST_BALLOTS)) }
 {
     let number = number_of(field, 0, 1024)? as u16;
     if number == ballots + 1 || (ballots > 0 && number == ballots) {

@@ -2,6 +2,7 @@ ghost use Rattle.std.specs.Prelude.{◌≡◌, ◌<◌, ◌≤◌, ◌+◌, leng
 ghost use Rattle.csv.specs.Records.{fields_of};
 ghost use Rattle.lat_base.specs.Names.{NamesFit};
 ghost use Rattle.lat_base.specs.Shape.{target_count};
+ghost use Rattle.lat_base.specs.declared.limits.TheConstants.{MOST_TARGETS};
 ghost use Rattle.deck_text.specs.Faults.{Gives};
 ghost use Rattle.deck_text.specs.ReportRead.{report_row, report_from, whole_report, report_read};
 ghost use Rattle.deck_text.specs.RowCount.{total_rows};
@@ -107,7 +108,7 @@ fn first_missing(totals: &[Option<u32>]) -> Option<usize>
 
 // The totals where each target has one, or the first target with none.
 fn whole_report(alloc: Global, totals: &[Option<u32>]) -> Result<Vec<u32>, CsvFail>
-    requires { length totals.now ≤ 256 }
+    requires { length totals.now ≤ MOST_TARGETS }
     ensures totals { Gives (λ totals. totals.items) result (whole_report totals.now) }
     ensures long { IfOk result (λ all. length all.items ≡ length totals.now) }
 {

@@ -1,6 +1,7 @@
 ghost use Rattle.std.specs.Prelude.{◌≡◌, ◌≤◌, IfOk, IfSome, length};
 ghost use Rattle.lat_base.specs.Shape.{target_count};
 ghost use Rattle.lat_base.specs.Goodness.{IsRobust, IsGood};
+ghost use Rattle.lat_base.specs.declared.limits.TheConstants.{MOST_BALLOTS};
 
 use crate::evaders::Evaders;
 use crate::judgement::{Judgement, judge};
@@ -46,7 +47,7 @@ fn mend(
     budget: u64,
     loom: &mut Loom,
 ) -> Result<Option<Deck>, AllocError>
-    requires few { k ≤ 1024 }
+    requires few { k ≤ MOST_BALLOTS }
     requires budget { 1 ≤ budget }
     ensures good { IfOk result (λ found.
         IfSome found (λ deck. IsGood shape.now rules.now deck.ballots)) }
@@ -83,7 +84,7 @@ pub fn weave(
     k: u16,
     budget: u64,
 ) -> Result<Option<Deck>, AllocError>
-    requires few { k ≤ 1024 }
+    requires few { k ≤ MOST_BALLOTS }
     requires budget { 1 ≤ budget }
     ensures good { IfOk result (λ found.
         IfSome found (λ deck. IsGood shape.now rules.now deck.ballots)) }

@@ -1,5 +1,6 @@
 ghost use Rattle.std.specs.Prelude.{◌≡◌, ◌≤◌, IfOk, length};
 ghost use Rattle.lat_base.specs.Shape.{target_count};
+ghost use Rattle.lat_base.specs.declared.limits.TheConstants.{MOST_BALLOTS};
 
 use crate::ballot_set::BallotSet;
 use crate::loom::Loom;
@@ -58,7 +59,7 @@ fn mark_contests(deck: &mut Deck, loom: &Loom)
 /// The deck of `k` ballots on which the contests are marked as they are laid. The only error is
 /// want of memory.
 pub fn deck_of(alloc: Global, shape: &Shape, k: u16, loom: &Loom) -> Result<Deck, AllocError>
-    requires { k ≤ 1024 }
+    requires { k ≤ MOST_BALLOTS }
     ensures targets { IfOk result (λ deck. deck.targets ≡ target_count shape.now) }
     ensures ballots { IfOk result (λ deck. length deck.ballots ≡ k) }
 {

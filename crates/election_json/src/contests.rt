@@ -1,6 +1,7 @@
 //! The contests of a definition.
 
 ghost use Rattle.std.specs.Prelude.{◌≡◌, ◌≤◌, ◌++◌, ◌∷◌, [], length, map, IfOk};
+ghost use Rattle.lat_base.specs.declared.limits.TheConstants.{MOST_IN_CONTEST};
 ghost use Rattle.serde_json.specs.View.{view};
 ghost use Rattle.election_json.specs.Fault.{Gives};
 ghost use Rattle.election_json.specs.Entry.{each};
@@ -19,7 +20,7 @@ use std::alloc::Global;
 // The ids of the targets of contest number `i`.
 #[tactic(auto, unfolding(crate::specs::Entry::each_from))]
 fn targets_of(alloc: Global, i: u32, values: &[Value]) -> Result<Names0, DefFail>
-    requires { length values.now ≤ 64 }
+    requires { length values.now ≤ MOST_IN_CONTEST }
     ensures { Gives (λ ids. ids) result (each (target_entry i) (map view values.now)) }
 {
     let mut ids = Names0::new(alloc);

@@ -3,6 +3,7 @@
 ghost use Rattle.std.specs.Prelude.{◌≡◌, ◌<◌, ◌≤◌, ◌++◌, ◌∷◌, [], length, map, All, IfOk};
 ghost use Rattle.serde_json.specs.View.{view};
 ghost use Rattle.lat_base.specs.Shape.{target_count};
+ghost use Rattle.lat_base.specs.declared.limits.TheConstants.{MOST_CONTESTS};
 ghost use Rattle.election_json.specs.Fault.{Gives};
 ghost use Rattle.election_json.specs.Entry.{each};
 ghost use Rattle.election_json.specs.Styles.{contest_shape, chosen_contest, next_chosen, style_entry, next_style, styles_of};
@@ -50,11 +51,11 @@ fn chosen_contests(
     i: u32,
     values: &[Value],
 ) -> Result<Vec<u32>, DefFail>
-    requires { length values.now ≤ 128 }
+    requires { length values.now ≤ MOST_CONTESTS }
     ensures gives { Gives (λ cs. map (entry_at contests.now) cs.items) result
         (each (next_chosen contests.now i) (map view values.now)) }
     ensures within { IfOk result (λ cs. AreWithin contests.now cs.items) }
-    ensures count { IfOk result (λ cs. length cs.items ≤ 128) }
+    ensures count { IfOk result (λ cs. length cs.items ≤ MOST_CONTESTS) }
 {
     let mut chosen = Vec::new(alloc);
     let mut earlier = IdSet::new(alloc);
@@ -74,7 +75,7 @@ fn chosen_contests(
 // How many targets these contests have together.
 fn count_targets(contests: &ContestTable, chosen: &[u32]) -> u32
     requires within { AreWithin contests.now chosen.now }
-    requires few { length chosen.now ≤ 128 }
+    requires few { length chosen.now ≤ MOST_CONTESTS }
     ensures { result ≡ target_count (map contest_shape (map (entry_at contests.now) chosen.now)) }
 {
     let mut sum: u32 = 0;

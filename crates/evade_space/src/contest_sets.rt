@@ -1,4 +1,5 @@
 ghost use Rattle.std.specs.Prelude.{◌≡◌, ◌<◌, ◌≤◌, length};
+ghost use Rattle.lat_base.specs.declared.limits.TheConstants.{MOST_TARGETS};
 ghost use Rattle.evade_space.specs.Masks.{IsMarked, AreContestSets};
 
 use crate::ballot_words::page_words;
@@ -23,7 +24,7 @@ impl ContestSets {
     // The sets for contest `c`, of which so many places are still to be filled.
     pub fn new(space: &Evade, state: &EvadeState, c: u16, places: u16) -> ContestSets
         requires marks { IsMarked space.now state.now c }
-        requires few { places ≤ 256 }
+        requires few { places ≤ MOST_TARGETS }
         ensures { AreContestSets space.now state.now.sources c places result }
     {
         let pages = space.pages();

@@ -1,5 +1,6 @@
 ghost use Rattle.std.specs.Prelude.{◌≡◌, ◌<◌, ◌≤◌, ◌+◌, ◌*◌, ℕ, true, [], length, get_or, slice_set, sum_by, cond, IfOk};
 ghost use Rattle.lat_base.specs.Shape.{target_count, contest_of};
+ghost use Rattle.lat_base.specs.declared.limits.TheConstants.{MOST_BALLOTS};
 ghost use Rattle.evade_space.specs.Sources.{AreGiven, with_source};
 ghost use Rattle.lat_ballots.specs.Columns.{has_mark};
 ghost use Rattle.evade_space.specs.Losses.{over, lost};
@@ -174,7 +175,7 @@ fn free_row(
 // Where so many marks of one contest are known on each ballot, how many are lost.
 #[tactic(auto, using(crate::proofs::MovedMarks::over_more))]
 fn lost_of(marks: &[u16], limit: u16) -> u32
-    requires { length marks.now ≤ 1024 }
+    requires { length marks.now ≤ MOST_BALLOTS }
     ensures sum { result ≡ sum_by (over limit) marks.now }
     ensures few { result ≤ 65536 * 1024 }
 {
@@ -200,7 +201,7 @@ fn move_marks(space: &Evade, t: u16, from: &mut Vec<u16>, to: &mut Vec<u16>)
     requires to_long { length to.old.items ≡ length space.now.deck }
     requires some { (j : ℕ) → j < length space.now.deck
         → has_mark t (get_or space.now.deck j []) ≡ true → 1 ≤ get_or from.old.items j 0 }
-    requires few { (j : ℕ) → j < length space.now.deck → get_or to.old.items j 0 ≤ 1024 }
+    requires few { (j : ℕ) → j < length space.now.deck → get_or to.old.items j 0 ≤ MOST_BALLOTS }
     ensures fewer { (j : ℕ) → j < length space.now.deck
         → get_or from.new.items j 0 + cond (has_mark t (get_or space.now.deck j [])) 1 0
         ≡ get_or from.old.items j 0 }

@@ -3,6 +3,7 @@
 ghost use Rattle.std.specs.Prelude.{◌≡◌, ◌<◌, ◌≤◌, ◌+◌, ◌*◌, length, take, IfOk, IfSome, MatchBool, MatchOption};
 ghost use Rattle.lat_base.specs.Goodness.{IsGood, NoGoodBelow};
 ghost use Rattle.lat_base.specs.Shape.{target_count};
+ghost use Rattle.lat_base.specs.declared.limits.TheConstants.{MOST_BALLOTS};
 ghost use Rattle.plain_search.specs.Trying.{marks_of, NoGoodFrom};
 
 use crate::robust::is_robust;
@@ -72,7 +73,7 @@ pub fn least_deck(
     rules: &Rules,
     max: u16,
 ) -> Result<Option<Deck>, AllocError>
-    requires { max ≤ 1024 }
+    requires { max ≤ MOST_BALLOTS }
     ensures none { IfOk result (λ found.
         MatchOption found (NoGoodBelow shape.now rules.now (max + 1))
         (λ deck. IsGood shape.now rules.now deck.ballots)) }

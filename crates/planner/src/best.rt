@@ -1,5 +1,6 @@
 ghost use Rattle.std.specs.Prelude.{◌≡◌, ◌≢◌, ◌≤◌, ◌<◌, Some, Ok, IfOk};
 ghost use Rattle.lat_base.specs.Goodness.{NoGoodBelow};
+ghost use Rattle.lat_base.specs.declared.limits.TheConstants.{MOST_BALLOTS};
 ghost use Rattle.cert_types.specs.declared.proved.Proved.{Proved};
 ghost use Rattle.planner.specs.Answer.{IsBest, IsBetween, most};
 
@@ -27,7 +28,7 @@ fn find_near(
     top: u16,
     budget: u64,
 ) -> Result<Option<Proved>, AllocError>
-    requires few { top ≤ 1024 }
+    requires few { top ≤ MOST_BALLOTS }
     requires budget { 1 ≤ budget }
     ensures { (proved : Proved) → result ≡ Ok (Some proved) →
         IsBetween shape.now rules.now from top proved }
@@ -50,7 +51,7 @@ fn find_apart(
     top: u16,
     budget: u64,
 ) -> Result<Option<Proved>, AllocError>
-    requires few { top ≤ 1024 }
+    requires few { top ≤ MOST_BALLOTS }
     requires budget { 1 ≤ budget }
     ensures { (proved : Proved) → result ≡ Ok (Some proved) →
         IsBetween shape.now rules.now from top proved }
@@ -72,7 +73,7 @@ fn find_between(
     top: u16,
     budget: u64,
 ) -> Result<Option<Proved>, AllocError>
-    requires few { top ≤ 1024 }
+    requires few { top ≤ MOST_BALLOTS }
     requires budget { 1 ≤ budget }
     ensures { (proved : Proved) → result ≡ Ok (Some proved) →
         IsBetween shape.now rules.now from top proved }
@@ -95,7 +96,7 @@ pub(crate) fn find_best(
     max: u16,
     budget: u64,
 ) -> Result<Option<Proved>, AllocError>
-    requires few { max ≤ 1024 }
+    requires few { max ≤ MOST_BALLOTS }
     requires budget { 1 ≤ budget }
     requires none { NoGoodBelow shape.now rules.now from }
     requires plain { from ≢ most shape.now rules.now }

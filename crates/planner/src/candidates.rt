@@ -1,4 +1,5 @@
 ghost use Rattle.std.specs.Prelude.{◌≡◌, ◌≤◌, Some, Ok};
+ghost use Rattle.lat_base.specs.declared.limits.TheConstants.{MOST_BALLOTS};
 ghost use Rattle.cert_types.specs.declared.proved.Proved.{Proved};
 ghost use Rattle.planner.specs.Searched.{IsGoodOf};
 
@@ -17,7 +18,7 @@ pub(crate) fn try_candidate(
     k: u16,
     budget: u64,
 ) -> Result<Option<Proved>, AllocError>
-    requires few { k ≤ 1024 }
+    requires few { k ≤ MOST_BALLOTS }
     requires budget { 1 ≤ budget }
     ensures { (proved : Proved) → result ≡ Ok (Some proved) →
         IsGoodOf shape.now rules.now k proved }

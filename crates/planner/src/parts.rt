@@ -1,4 +1,5 @@
 ghost use Rattle.std.specs.Prelude.{◌≡◌, ◌<◌, ◌≤◌, Some, Ok, length};
+ghost use Rattle.lat_base.specs.declared.limits.TheConstants.{MOST_BALLOTS};
 ghost use Rattle.cert_types.specs.LowerPart.{LowerPart};
 ghost use Rattle.planner.specs.Step.{IsLowerOf};
 
@@ -69,7 +70,7 @@ fn try_part(
     contests: Vec<u16>,
     budget: u64,
 ) -> Result<Option<Lower>, AllocError>
-    requires few { k ≤ 1024 }
+    requires few { k ≤ MOST_BALLOTS }
     requires budget { 1 ≤ budget }
     ensures { (lower : LowerPart) → result ≡ Ok (Some lower) →
         IsLowerOf shape.now rules.now k lower }
@@ -99,7 +100,7 @@ fn try_alike(
     c: u16,
     budget: u64,
 ) -> Result<Option<Lower>, AllocError>
-    requires few { k ≤ 1024 }
+    requires few { k ≤ MOST_BALLOTS }
     requires contest { c < length shape.now }
     requires budget { 1 ≤ budget }
     ensures { (lower : LowerPart) → result ≡ Ok (Some lower) →
@@ -122,7 +123,7 @@ fn try_groups(
     k: u16,
     budget: u64,
 ) -> Result<Option<Lower>, AllocError>
-    requires few { k ≤ 1024 }
+    requires few { k ≤ MOST_BALLOTS }
     requires budget { 1 ≤ budget }
     ensures { (lower : LowerPart) → result ≡ Ok (Some lower) →
         IsLowerOf shape.now rules.now k lower }
@@ -146,7 +147,7 @@ pub(crate) fn try_parts(
     k: u16,
     budget: u64,
 ) -> Result<Option<Lower>, AllocError>
-    requires few { k ≤ 1024 }
+    requires few { k ≤ MOST_BALLOTS }
     requires budget { 1 ≤ budget }
     ensures { (lower : LowerPart) → result ≡ Ok (Some lower) →
         IsLowerOf shape.now rules.now k lower }

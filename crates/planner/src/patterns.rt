@@ -1,4 +1,5 @@
 ghost use Rattle.std.specs.Prelude.{◌≡◌, ◌≤◌, Some, None, Ok};
+ghost use Rattle.lat_base.specs.declared.limits.TheConstants.{MOST_BALLOTS};
 ghost use Rattle.cert_types.specs.declared.proved.Proved.{Proved};
 ghost use Rattle.planner.specs.Searched.{IsGoodOf};
 ghost use Rattle.planner.specs.Tried.{AreTried, IsTriedPattern};
@@ -21,7 +22,7 @@ pub(crate) fn try_pattern(
     turn: u32,
     budget: u64,
 ) -> Result<Option<Proved>, AllocError>
-    requires few { k ≤ 1024 }
+    requires few { k ≤ MOST_BALLOTS }
     requires budget { 1 ≤ budget }
     ensures some { (proved : Proved) → result ≡ Ok (Some proved) →
         IsGoodOf shape.now rules.now k proved }
@@ -45,7 +46,7 @@ pub(crate) fn try_patterns(
     k: u16,
     budget: u64,
 ) -> Result<Option<Proved>, AllocError>
-    requires few { k ≤ 1024 }
+    requires few { k ≤ MOST_BALLOTS }
     requires budget { 1 ≤ budget }
     ensures some { (proved : Proved) → result ≡ Ok (Some proved) →
         IsGoodOf shape.now rules.now k proved }

@@ -1,4 +1,5 @@
 ghost use Rattle.std.specs.Prelude.{◌≤◌, IfOk};
+ghost use Rattle.lat_base.specs.declared.limits.TheConstants.{MOST_BALLOTS};
 ghost use Rattle.planner.specs.Answer.{most};
 ghost use Rattle.planner.specs.Searched.{IsGoodOf};
 
@@ -16,7 +17,7 @@ pub(crate) fn plain_proved(
     shape: &Shape,
     rules: &Rules,
 ) -> Result<Proved, AllocError>
-    requires { most shape.now rules.now ≤ 1024 }
+    requires { most shape.now rules.now ≤ MOST_BALLOTS }
     ensures { IfOk result (IsGoodOf shape.now rules.now (most shape.now rules.now)) }
 {
     plain_is_canonical();

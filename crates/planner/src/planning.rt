@@ -1,4 +1,5 @@
 ghost use Rattle.std.specs.Prelude.{◌≤◌, IfOk};
+ghost use Rattle.lat_base.specs.declared.limits.TheConstants.{MOST_BALLOTS};
 ghost use Rattle.planner.specs.Answer.{IsAnswer, IsSearchedAnswer, IsNotBelow, most};
 ghost use Rattle.planner.specs.Lower.{IsLowerFor, IsEagerLower};
 ghost use Rattle.planner.specs.Reach.{IsAmple, IsDecided};
@@ -23,7 +24,7 @@ fn plan_sizes(
 ) -> Result<Answer, AllocError>
     requires within { first ≤ max }
     requires plain { first ≤ most shape.now rules.now }
-    requires few { max ≤ 1024 }
+    requires few { max ≤ MOST_BALLOTS }
     requires budget { 1 ≤ budget }
     requires below { IsLowerFor shape.now rules.now first lower }
     ensures answer { IfOk result (IsAnswer shape.now rules.now max budget) }
@@ -71,7 +72,7 @@ pub fn plan(
     budget: u64,
 ) -> Result<Answer, AllocError>
     requires some { 1 ≤ max }
-    requires few { max ≤ 1024 }
+    requires few { max ≤ MOST_BALLOTS }
     requires budget { 1 ≤ budget }
     ensures answer { IfOk result (IsAnswer shape.now rules.now max budget) }
 

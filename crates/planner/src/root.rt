@@ -1,4 +1,5 @@
 ghost use Rattle.std.specs.Prelude.{◌≡◌, ◌≤◌, Some, Ok, List};
+ghost use Rattle.lat_base.specs.declared.limits.TheConstants.{MOST_BALLOTS};
 ghost use Rattle.close_rules.specs.declared.label.Label.{Label};
 ghost use Rattle.close_rules.specs.declared.reason.Reason.{Reason};
 ghost use Rattle.tree_core.specs.declared.node.Node.{Node};
@@ -18,7 +19,7 @@ pub(crate) fn close_root(
     rules: &Rules,
     k: u16,
 ) -> Result<Option<Tree<Label, Reason>>, AllocError>
-    requires { k ≤ 1024 }
+    requires { k ≤ MOST_BALLOTS }
     ensures { (tree : List (Node Label Reason)) → result ≡ Ok (Some tree) →
         IsClosedTree shape.now rules.now k tree }
 {

@@ -1,4 +1,5 @@
 ghost use Rattle.std.specs.Prelude.{◌≡◌, ◌≤◌, IfOk};
+ghost use Rattle.lat_base.specs.declared.limits.TheConstants.{MOST_BALLOTS};
 ghost use Rattle.planner.specs.Searched.{IsSearched};
 
 use crate::deck_chooser::DeckChooser;
@@ -19,7 +20,7 @@ pub(crate) fn search_size(
     k: u16,
     budget: u64,
 ) -> Result<Searched, AllocError>
-    requires few { k ≤ 1024 }
+    requires few { k ≤ MOST_BALLOTS }
     requires budget { 1 ≤ budget }
     ensures { IfOk result (IsSearched shape.now rules.now k budget) }
 {

@@ -1,4 +1,5 @@
 ghost use Rattle.std.specs.Prelude.{◌≡◌, ◌≤◌, ◌≢◌, Some, Ok, IfOk};
+ghost use Rattle.lat_base.specs.declared.limits.TheConstants.{MOST_BALLOTS};
 ghost use Rattle.cert_types.specs.declared.proved.Proved.{Proved};
 ghost use Rattle.planner.specs.Answer.{most};
 ghost use Rattle.planner.specs.Searched.{IsGoodOf, IsSpentAt};
@@ -35,7 +36,7 @@ fn try_quickly(
     k: u16,
     budget: u64,
 ) -> Result<Option<Proved>, AllocError>
-    requires few { k ≤ 1024 }
+    requires few { k ≤ MOST_BALLOTS }
     requires budget { 1 ≤ budget }
     ensures { (proved : Proved) → result ≡ Ok (Some proved) →
         IsGoodOf shape.now rules.now k proved }
@@ -56,7 +57,7 @@ fn try_at_last(
     budget: u64,
     license: License,
 ) -> Result<Step, AllocError>
-    requires few { k ≤ 1024 }
+    requires few { k ≤ MOST_BALLOTS }
     requires budget { 1 ≤ budget }
     requires plain { k ≢ most shape.now rules.now }
     requires spent { IsSpentAt shape.now rules.now k budget license }
@@ -76,7 +77,7 @@ fn search_whole(
     k: u16,
     budget: u64,
 ) -> Result<Step, AllocError>
-    requires few { k ≤ 1024 }
+    requires few { k ≤ MOST_BALLOTS }
     requires budget { 1 ≤ budget }
     requires plain { k ≢ most shape.now rules.now }
     ensures { IfOk result (IsStep shape.now rules.now k budget) }
@@ -102,7 +103,7 @@ fn plan_other(
     k: u16,
     budget: u64,
 ) -> Result<Step, AllocError>
-    requires few { k ≤ 1024 }
+    requires few { k ≤ MOST_BALLOTS }
     requires budget { 1 ≤ budget }
     requires plain { k ≢ most shape.now rules.now }
     ensures { IfOk result (IsStep shape.now rules.now k budget) }
@@ -131,7 +132,7 @@ pub(crate) fn plan_size(
     k: u16,
     budget: u64,
 ) -> Result<Step, AllocError>
-    requires few { k ≤ 1024 }
+    requires few { k ≤ MOST_BALLOTS }
     requires budget { 1 ≤ budget }
     ensures { IfOk result (IsStep shape.now rules.now k budget) }
 {

@@ -1,6 +1,7 @@
 ghost use Rattle.std.specs.Prelude.{◌≡◌, ◌≤◌, IfOk, length};
 ghost use Rattle.std.specs.List.{range_with_len};
 ghost use Rattle.lat_base.specs.Rules.{RuleSet};
+ghost use Rattle.lat_base.specs.declared.limits.TheConstants.{MOST_BALLOTS};
 ghost use Rattle.planner.specs.Searched.{IsClosedTree};
 ghost use Rattle.planner.specs.Step.{IsLowerOf};
 
@@ -29,7 +30,7 @@ pub(crate) fn whole_lower(
     k: u16,
     tree: Tree<Label, Reason>,
 ) -> Result<Lower, AllocError>
-    requires { k ≤ 1024 }
+    requires { k ≤ MOST_BALLOTS }
     ensures { (rules : RuleSet) → IsClosedTree shape.now rules k tree →
         IfOk result (IsLowerOf shape.now rules k) }
 {
