@@ -10,7 +10,7 @@ pub loop-j-preserved : goal.loop-j-preserved
 loop-j-preserved c =
     let T = target_count c.args.shape.now in
     let inv = c.loop-j.invariant in
-    let deck = c.in_ok-rest.ensures.deck in
+    let deck = c.row_of.ensures.deck in
     let ballot = ballot_at c.row_of.new.deck c.loop-j.j in
     let bs : c.row_of.new.deck.ballots ≡ set c.loop-j.deck.ballots c.loop-j.j ballot = ap (λ (d : Ballots). d.ballots) deck in
     let within : c.loop-j.j < length c.loop-j.deck.ballots = omega (arith, inv.count, c.loop-j-test.true) in

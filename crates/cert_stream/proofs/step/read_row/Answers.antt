@@ -44,7 +44,7 @@ returns-clause-moves c all stands =
     let reads = row_reads (head_of front) front.verdict deck.ballots c.args.j n all held e stands.1 in
     let behind = reads_field (row_at (target_count front.shape)) next all held reads row rest settled read in
     let done = row_done (head_of front) front.verdict deck.ballots row c.args.j n all rest e behind in
-    let new : c.row_of.new.deck.ballots ≡ slice_set deck.ballots c.args.j row = ap (λ (d : Ballots). d.ballots) c.in_ok-rest.ensures.deck in
+    let new : c.row_of.new.deck.ballots ≡ slice_set deck.ballots c.args.j row = ap (λ (d : Ballots). d.ballots) c.row_of.ensures.deck in
     (stands.0 ∙ ap Some (sym (ap length new ∙ length-set deck.ballots c.args.j row)), subst (λ (bs : List (List Bool)). Reads all rest (rows_left (head_of front) front.verdict (take (c.args.j + 1) bs) (length bs - (c.args.j + 1)))) (sym new) done)
 
 pub returns-clause-tail : goal.returns-clause-tail
