@@ -1,9 +1,8 @@
 -- A state's kid, and the way back.
-use Rattle.std.proofs.Common.{◌≡◌, ◌<◌, ℕ, Some, List, Option, length, get_or, refl, ap, sym, subst, ◌∙◌, arith}
+use Rattle.std.proofs.Common.{◌≡◌, ◌<◌, ℕ, Some, length, get_or, refl, ap, sym, subst, ◌∙◌, arith}
 use Rattle.std.proofs.lemmas.List.FromFn.{length-map-range_with_len}
 use Rattle.lat_base.specs.Shape.{target_count}
-use Rattle.tree_core.specs.Steps.{IsKid}
-use Rattle.evade_space.specs.Sources.{is_used, with_source, AreGiven}
+use Rattle.evade_space.specs.Sources.{with_source, AreGiven}
 use Rattle.evade_space.specs.Votes.{may_vote, must_vote}
 use Rattle.evade_space.specs.Counts.{Counts, counts_of}
 use Rattle.evade_space.specs.PartialMisassignment.{PartialMisassignment, moved, keeping}

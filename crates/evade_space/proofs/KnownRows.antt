@@ -1,5 +1,5 @@
 -- Kept counts of marks, ballot by ballot.
-use Rattle.std.proofs.Common.{◌≡◌, ◌<◌, ◌≤◌, ◌+◌, ◌&&◌, ℕ, Bool, false, not, Option, None, is_some, List, [], ◌∷◌, length, map, get_or, count_by, refl, ap, sym, ◌∙◌, arith, All}
+use Rattle.std.proofs.Common.{◌≡◌, ◌<◌, ◌≤◌, ◌+◌, ◌&&◌, ℕ, Bool, false, not, Option, None, is_some, List, [], ◌∷◌, length, map, get_or, refl, ap, sym, ◌∙◌, arith, All}
 use Rattle.std.proofs.lemmas.List.{length-map, get_or-map}
 use Rattle.std.proofs.lemmas.List.Sums.{count_by-le-length}
 use Rattle.lat_base.specs.declared.contest.Contest.{Contest}
@@ -11,7 +11,7 @@ use Rattle.evade_space.specs.Counts.{taken_in, free_in}
 use Rattle.lat_base.specs.Tally.{is_marked, is_overvoted}
 use Rattle.lemmas.proofs.Counting.{count_alike, none_pass, range_le_all}
 use Rattle.evade_space.specs.Sources.{source_at}
-use Rattle.evade_space.specs.Seen.{is_seen, seen, taken, free_marks, most_marks}
+use Rattle.evade_space.specs.Seen.{is_seen, seen, taken, free_marks}
 use Rattle.evade_space.specs.Votes.{may_vote_on, may_vote, must_vote_on, must_vote}
 use Rattle.evade_space.specs.PartialMisassignment.{PartialMisassignment}
 use Rattle.evade_space.specs.Sought.{Sought}

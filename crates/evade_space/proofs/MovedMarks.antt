@@ -1,5 +1,5 @@
 -- Counts of marks where a source comes or goes.
-use Rattle.std.proofs.Common.{◌≡◌, ◌≢◌, ◌<◌, ◌≤◌, ◌+◌, ◌-◌, ◌^◌, inl, inr, ℕ, Bool, true, Option, List, [], ◌∷◌, length, map, take, get_or, set, cond, sum_by, refl, ap, sym, subst, ◌∙◌, arith, Vec, Global}
+use Rattle.std.proofs.Common.{◌≡◌, ◌≢◌, ◌<◌, ◌≤◌, ◌+◌, inl, inr, ℕ, Bool, true, Option, List, [], ◌∷◌, length, map, take, get_or, set, cond, sum_by, refl, ap, sym, ◌∙◌, arith, Vec, Global}
 use Rattle.std.specs.List.{range_with_len}
 use Rattle.std.proofs.lemmas.List.{ext_get_or, length-map, get_or-map, length-set, get_or-set_other, map-set}
 use Rattle.std.proofs.lemmas.List.FromFn.{get_or-map-range_with_len, length-map-range_with_len, length-range_with_len}
@@ -7,12 +7,12 @@ use Rattle.std.proofs.lemmas.List.Sums.{sum_by_more, sum_by-cons, count_by-le-le
 use Rattle.std.proofs.lemmas.Grind.{get_or-set_at}
 use Rattle.std.proofs.lemmas.Bool.{cases_eq}
 use Rattle.lat_base.specs.declared.contest.Contest.{Contest}
-use Rattle.lat_base.specs.Shape.{target_count, contest_of, contest_at}
+use Rattle.lat_base.specs.Shape.{contest_of, contest_at}
 use Rattle.readings.proofs.Places.{is_of}
 use Rattle.evade_space.specs.Sources.{with_source}
 use Rattle.evade_space.specs.Seen.{taken, is_free_mark, free_marks}
-use Rattle.evade_space.specs.Losses.{over, lost_on, lost_in, lost}
-use Rattle.evade_space.specs.Counts.{taken_in, free_in, counts_of}
+use Rattle.evade_space.specs.Losses.{over, lost_on, lost_in}
+use Rattle.evade_space.specs.Counts.{taken_in, free_in}
 use Rattle.evade_space.specs.Sought.{Sought, IsSought}
 use Rattle.lat_ballots.specs.Columns.{has_mark}
 use Rattle.evade_space.specs.Trials.{IsGiving}

@@ -1,11 +1,11 @@
 -- A tree of one kid each shows that nothing evades the plain deck.
-use Rattle.std.proofs.Common.{◌≡◌, ◌≢◌, ◌<◌, ◌≤◌, ◌+◌, ◌-◌, ◌*◌, ◌++◌, ◌&&◌, ◌||◌, inl, inr, ℕ, zero, suc, Bool, true, false, not, min, cond, Option, Some, None, is_some, is_none, List, [], ◌∷◌, length, map, take, drop, get_or, set, replicate, count_by, sum_by, refl, ap, sym, subst, ◌∙◌, arith, length-append, length-drop}
-use Rattle.std.specs.Prelude.{◌==◌, slice_range, nat_le, nat_lt, if◌then◌else◌}
-use Rattle.std.specs.List.{range_with_len, filter, flat_map, list_any, list_all}
-use Rattle.std.proofs.lemmas.Bool.{cases_lt, cases_eq, le-leb, lt-ltb, and_parts, eq-eqb, eqb-true, not-true}
+use Rattle.std.proofs.Common.{◌≡◌, ◌≢◌, ◌<◌, ◌≤◌, ◌+◌, ◌-◌, ◌*◌, ◌++◌, ◌&&◌, ◌||◌, inl, inr, ℕ, zero, suc, Bool, true, false, not, min, cond, Option, Some, None, is_some, is_none, List, [], ◌∷◌, length, map, drop, get_or, replicate, count_by, sum_by, refl, ap, sym, subst, ◌∙◌, arith, length-drop}
+use Rattle.std.specs.Prelude.{◌==◌, slice_range, nat_lt, if◌then◌else◌}
+use Rattle.std.specs.List.{range_with_len, filter, flat_map, list_any}
+use Rattle.std.proofs.lemmas.Bool.{cases_lt, cases_eq, lt-ltb, and_parts, eq-eqb, not-true}
 use Rattle.std.proofs.lemmas.Bool.Decides.{nat_tests}
 use Rattle.std.proofs.lemmas.Grind.{flat_map-append, get_or-set_at}
-use Rattle.std.proofs.lemmas.List.{append-nil, get_or-replicate, get_or-set_other, get_or-take, get_or-drop, get_or_default, get_or_past, length-take-le, length-replicate, length-set, length-map}
+use Rattle.std.proofs.lemmas.List.{append-nil, get_or-replicate, get_or-set_other, get_or-take, get_or-drop, get_or_default, get_or_past, length-take-le, length-replicate, length-set}
 use Rattle.std.proofs.lemmas.List.Folds.{sum_by-replicate, list_any_at}
 use Rattle.std.proofs.lemmas.List.FromFn.{get_or-range_with_len, get_or-map-range_with_len, length-range_with_len}
 use Rattle.std.proofs.lemmas.List.Sums.{sum_by-append, sum_by-cons, get_or-le-sum_by, list_all-from_AllPass}
@@ -18,7 +18,7 @@ use Rattle.lat_base.specs.Rules.{RuleSet}
 use Rattle.lat_ballots.specs.Plain.{only, only_ballots, plain_ballots}
 use Rattle.lat_misassign.proofs.Identity.{identity_is}
 use Rattle.lemmas.proofs.Counting.{count_alike, count_map, count_le, none_pass, range_le_all}
-use Rattle.readings.proofs.Places.{is_of, first_le, first_next}
+use Rattle.readings.proofs.Places.{is_of, first_le}
 use Rattle.lemmas.proofs.Ranges.{range_more, one_in}
 use Rattle.readings.proofs.Readings.{reading_identity}
 use Rattle.evade_space.specs.Sources.{source_at, is_that, is_free, is_used, with_source, given_places, empty_places}
@@ -29,15 +29,15 @@ use Rattle.evade_space.specs.Kids.{can_get, kids_of}
 use Rattle.evade_space.specs.PartialMisassignment.{PartialMisassignment}
 use Rattle.evade_space.specs.Sought.{own_sought, start}
 use Rattle.evade_space.specs.Trees.{IsRobustTree}
-use Rattle.evade_space.specs.Steps.{evade_steps, has_skipped, is_skipped}
+use Rattle.evade_space.specs.Steps.{evade_steps, has_skipped}
 use Rattle.evade_space.specs.declared.skipped.Skipped.{Skipped}
 use Rattle.tree_core.specs.declared.node.Node.{Node}
 use Rattle.tree_core.specs.declared.node.Node.TheVariants.{Close, Fork}
-use Rattle.tree_core.specs.Rose.{Rose, Closed, Forked, Roses, none, more, preorder}
+use Rattle.tree_core.specs.Rose.{Rose, Closed, Forked, none, more, preorder}
 use Rattle.tree_core.specs.Reading.{tree_of}
 use Rattle.tree_core.specs.Checks.{Checks}
 use Rattle.tree_core.proofs.Trees.{tree_of-preorder}
-use Rattle.evade_space.proofs.Known.{with_long, at_image, at_other, free_is, inside_at}
+use Rattle.evade_space.proofs.Known.{with_long, at_image, at_other, free_is}
 use Rattle.evade_space.proofs.AttackBounds.{not_used}
 use Rattle.evade_space.proofs.Counted.{must_is, marked_within}
 use Rattle.evade_space.proofs.Filtered.{filter_suc}

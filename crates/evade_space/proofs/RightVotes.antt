@@ -1,12 +1,11 @@
 -- Votes for an image as they are counted by sets of ballots.
-use Rattle.std.proofs.Common.{◌≡◌, ◌<◌, ◌≤◌, ◌+◌, ◌&&◌, ◌∙◌, ℕ, Bool, Some, Option, List, min, count_by, length, get_or, refl, ap, sym, arith}
-use Rattle.std.specs.Prelude.{nat_le}
-use Rattle.lat_base.specs.Shape.{target_count, contest_of, contest_at}
+use Rattle.std.proofs.Common.{◌≡◌, ◌<◌, ◌&&◌, ◌∙◌, ℕ, Bool, Some, Option, List, min, length, get_or, refl, sym, arith}
+use Rattle.lat_base.specs.Shape.{target_count, contest_of}
 use Rattle.lemmas.proofs.Counting.{count_alike}
 use Rattle.evade_space.specs.declared.contest_sets.ContestSets.{ContestSets}
 use Rattle.evade_space.specs.Sources.{source_at, empty_places, AreGiven}
-use Rattle.evade_space.specs.Seen.{taken, free_marks, most_marks}
-use Rattle.evade_space.specs.Votes.{may_vote_on, may_vote, must_vote_on, must_vote}
+use Rattle.evade_space.specs.Seen.{taken, free_marks}
+use Rattle.evade_space.specs.Votes.{may_vote_on, must_vote_on}
 use Rattle.evade_space.specs.Sought.{Sought}
 use Rattle.lat_ballots.specs.Columns.{IsSet, has_mark}
 use Rattle.evade_space.specs.BallotSets.{common_ones}

@@ -1,9 +1,7 @@
-use Rattle.std.proofs.Common.{◌≡◌, ◌++◌, ◌∙◌, ℕ, Bool, List, [], ◌∷◌, length, map, get_or, ap, sym, subst, arith, Vec, Global}
+use Rattle.std.proofs.Common.{◌≡◌, ◌++◌, ◌∙◌, ℕ, [], ◌∷◌, map, ap, sym, Vec, Global}
 use Rattle.std.proofs.lemmas.List.{map-append}
-use Rattle.lat_ballots.specs.Row.{common_count}
-use Rattle.lat_base.specs.Shape.{target_count}
 use Rattle.lemmas.proofs.Ranges.{made_more}
-use Rattle.evade_space.specs.Sought.{Sought, IsSought}
+use Rattle.evade_space.specs.Sought.{Sought}
 use Rattle.evade_space.specs.Counts.{taken_in}
 use Rattle.evade_space.proofs.KnownRows.{row_of_taken}
 use Rattle.evade_space.proofs.count_all.count_taken.Goals as goal

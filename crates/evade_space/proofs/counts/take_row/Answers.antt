@@ -1,4 +1,4 @@
-use Rattle.std.proofs.Common.{◌≡◌, ◌∙◌, ap, arith, length}
+use Rattle.std.proofs.Common.{◌∙◌, arith}
 use Rattle.lat_base.specs.Shape.{contest_at}
 use Rattle.evade_space.proofs.KeptLost.{Moves}
 use Rattle.evade_space.proofs.MovedMarks.{row_rises, free_falls, free_some, row_few, lost_then}

@@ -1,5 +1,4 @@
-use Rattle.std.proofs.Common.{◌≡◌, ◌<◌, ◌&&◌, ◌∙◌, ℕ, Bool, Some, min, count_by, length, get_or, nat_le, ap, sym, refl, arith}
-use Rattle.std.proofs.lemmas.Bool.{cases_eq}
+use Rattle.std.proofs.Common.{◌<◌, ◌∙◌, length, sym, arith}
 use Rattle.evade_space.proofs.RightVotes.{right_votes}
 use Rattle.evade_space.proofs.KnownRows.{none_may, none_must}
 use Rattle.evade_space.proofs.recount.votes_for.Goals as goal

@@ -1,4 +1,4 @@
-use Rattle.std.proofs.Common.{◌≡◌, ◌<◌, ℕ, ◌∙◌, arith}
+use Rattle.std.proofs.Common.{◌<◌, ℕ, ◌∙◌, arith}
 use Rattle.std.proofs.lemmas.List.{length-set}
 use Rattle.evade_space.specs.Masks.{is_within, has_room, is_sure, is_sure_with}
 use Rattle.lat_ballots.proofs.Pages.{set_more}

@@ -1,5 +1,4 @@
-use Rattle.std.proofs.Common.{◌≡◌, ◌∙◌, ℕ, ap, sym, arith, length, map, set}
-use Rattle.std.specs.List.{range_with_len}
+use Rattle.std.proofs.Common.{◌∙◌, ℕ, ap, arith, length, map, set}
 use Rattle.lat_base.specs.Shape.{contest_of}
 use Rattle.evade_space.specs.Sources.{with_source}
 use Rattle.evade_space.specs.Counts.{Counts, taken_in}

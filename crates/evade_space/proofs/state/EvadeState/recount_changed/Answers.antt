@@ -1,7 +1,7 @@
-use Rattle.std.proofs.Common.{◌≡◌, ◌<◌, ◌+◌, inl, inr, ℕ, None, List, Option, ap, sym, subst, ◌∙◌, arith}
+use Rattle.std.proofs.Common.{◌≡◌, ◌+◌, inl, inr, ℕ, List, Option, ap, sym, ◌∙◌, arith}
 use Rattle.std.proofs.lemmas.Bool.{cases_eq}
-use Rattle.lat_base.specs.Shape.{target_count, first_target, contest_of}
-use Rattle.readings.proofs.Places.{contest_is, first_le, IsOf}
+use Rattle.lat_base.specs.Shape.{contest_of}
+use Rattle.readings.proofs.Places.{contest_is, first_le}
 use Rattle.evade_space.specs.Sources.{source_at, empty_places}
 use Rattle.evade_space.proofs.state.EvadeState.recount_changed.Goals as goal
 

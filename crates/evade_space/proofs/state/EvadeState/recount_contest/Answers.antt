@@ -1,11 +1,11 @@
-use Rattle.std.proofs.Common.{◌≡◌, ◌≢◌, ◌<◌, ◌≤◌, ◌+◌, ◌⊎◌, inl, inr, ℕ, List, Option, get_or, ap, sym, subst, ◌∙◌, arith}
+use Rattle.std.proofs.Common.{◌≡◌, ◌<◌, ◌≤◌, ◌+◌, ◌⊎◌, inl, inr, ℕ, List, Option, ap, sym, subst, ◌∙◌, arith}
 use Rattle.std.proofs.lemmas.Bool.{cases_eq}
-use Rattle.lat_base.specs.Shape.{target_count, first_target, contest_of}
+use Rattle.lat_base.specs.Shape.{target_count, first_target}
 use Rattle.readings.proofs.Places.{contest_is, first_mono}
 use Rattle.evade_space.specs.Votes.{may_vote, must_vote}
 use Rattle.evade_space.specs.Sought.{Sought}
 use Rattle.evade_space.specs.Recounts.{HasVotes}
-use Rattle.evade_space.proofs.VoteSteps.{Stepped, marked_at, vote_step}
+use Rattle.evade_space.proofs.VoteSteps.{marked_at, vote_step}
 use Rattle.evade_space.proofs.state.EvadeState.recount_contest.Goals as goal
 
 pub new-sets-requires-clause-marks : goal.new-sets-requires-clause-marks

@@ -1,6 +1,6 @@
-use Rattle.std.proofs.Common.{◌≡◌, ◌≢◌, ◌<◌, ◌≤◌, ◌+◌, ◌⊎◌, inl, inr, ℕ, None, List, Option, length, ap, sym, subst, ◌∙◌, arith}
+use Rattle.std.proofs.Common.{◌≡◌, ◌+◌, ◌⊎◌, inl, inr, ℕ, None, List, Option, length, ap, subst, ◌∙◌, arith}
 use Rattle.std.proofs.lemmas.Bool.{cases_lt}
-use Rattle.lat_base.specs.Shape.{target_count, first_target, contest_of}
+use Rattle.lat_base.specs.Shape.{first_target, contest_of}
 use Rattle.readings.proofs.Places.{is_of, first_mono}
 use Rattle.evade_space.specs.Sources.{source_at, empty_places}
 use Rattle.evade_space.specs.Counts.{counts_of}

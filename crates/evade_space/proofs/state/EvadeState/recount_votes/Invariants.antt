@@ -1,4 +1,4 @@
-use Rattle.std.proofs.Common.{◌≡◌, ◌<◌, ◌≤◌, ℕ}
+use Rattle.std.proofs.Common.{◌<◌, ℕ}
 use Rattle.lat_base.specs.Shape.{first_target}
 use Rattle.evade_space.specs.Recounts.{HasMarks, HasVotes, HasVotesBeside, KeepsRest}
 use Rattle.evade_space.proofs.state.EvadeState.recount_votes.Given as goal
