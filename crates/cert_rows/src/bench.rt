@@ -1,6 +1,7 @@
 use crate::answer::Answer;
 use crate::digits::{number_of, push_hex, push_number, split_word};
-use crate::pieces::{check_in_pieces, check_whole, part_word, verdict_words};
+use crate::judging::judged_words;
+use crate::pieces::{check_in_pieces, check_open, check_whole, part_word, verdict_words};
 use anyhow::Result;
 use cert_types::{CertFault, Checked, put_label};
 use close_rules::Label;
@@ -153,6 +154,25 @@ impl Bench {
         Ok(())
     }
 
+    // Prints the answer of the check of the bytes at hand as an open file.
+    fn open<R: Print>(&self, rt: &R) -> Result<()> {
+        print!(rt; "{} bytes as an open file: ", self.bytes.len())?;
+        match check_open(self.alloc, &self.bytes) {
+            Ok(None) => println!(rt; "holds")?,
+            Ok(Some((part, node))) => println!(rt; "false, {} {node}", part_word(part))?,
+            Err(CertFault::NotACertificate) => println!(rt; "no open file")?,
+            Err(CertFault::Memory) => println!(rt; "memory")?,
+        }
+        Ok(())
+    }
+
+    // Prints what reported totals come to under the bytes at hand.
+    fn judge<R: Print>(&self, rt: &R, totals: &str) -> Result<()> {
+        let judged = judged_words(self.alloc, &self.bytes, totals)?;
+        println!(rt; "{} bytes judge {totals}: {judged}", self.bytes.len())?;
+        Ok(())
+    }
+
     // Prints the answer of the check of the bytes at hand in pieces of so many.
     fn pieces<R: Print>(&self, rt: &R, size: u16) -> Result<()> {
         let streamed = check_in_pieces(self.alloc, &self.bytes, size);
@@ -212,6 +232,8 @@ impl Bench {
             }
             "prefixes" => self.prefixes(rt)?,
             "whole" => self.whole(rt)?,
+            "open" => self.open(rt)?,
+            "judge" => self.judge(rt, rest)?,
             "pieces" => self.pieces(rt, number_of(rest))?,
             "changes" => self.changes(rt)?,
             "mark" => {

@@ -1,10 +1,11 @@
-//! Reads bytes as a certificate, an open file and an evade file, and checks them in pieces, as the
-//! lines of standard input say, and prints what each came to.
+//! Reads bytes as a certificate, an open file and an evade file, checks them whole and in pieces, and
+//! judges totals by them, as the lines of standard input say, and prints what each came to.
 #![tactic(auto)]
 
 mod answer;
 mod bench;
 mod digits;
+mod judging;
 mod pieces;
 
 use anyhow::Result;

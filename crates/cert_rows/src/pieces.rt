@@ -1,5 +1,5 @@
-use cert_check::check_cert;
-use cert_format::read_cert;
+use cert_check::{check_cert, check_open_file};
+use cert_format::{read_cert, read_open};
 use cert_stream::StreamCheck;
 use cert_types::{CertFault, Checked, Part, Verdict};
 use std::alloc::Global;
@@ -19,6 +19,12 @@ pub struct Streamed {
 pub fn check_whole(alloc: Global, bytes: &[u8]) -> Result<Checked, CertFault> {
     let cert = read_cert(alloc, bytes)?;
     Ok(check_cert(alloc, &cert)?)
+}
+
+/// The first fault where bytes are read as an open file and then checked.
+pub fn check_open(alloc: Global, bytes: &[u8]) -> Result<Option<(Part, u64)>, CertFault> {
+    let file = read_open(alloc, bytes)?;
+    Ok(check_open_file(alloc, &file)?)
 }
 
 /// The answer where bytes are fed in pieces of so many, at least one.
