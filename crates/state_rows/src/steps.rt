@@ -18,9 +18,10 @@ fn fix(partial: &mut Partial, t: u16, total: u16) -> Result<()> {
         partial.lo(t) <= total && total <= partial.hi(t),
         "no such total"
     );
+    let bounds = partial.bounds(t);
     ensure!(
-        partial.bounds(t).high != total,
-        "the bounds are kept already"
+        bounds.low != total || bounds.high != total,
+        "the total is narrowed already"
     );
     partial.narrow(t, total, total);
     Ok(())
