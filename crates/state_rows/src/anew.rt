@@ -105,8 +105,8 @@ fn is_contest_right(partial: &Partial, c: u16) -> bool
     true
 }
 
-/// Whether all that a partial deck keeps of its targets, its ballots and its contests are the counts
-/// of its marks.
+/// Whether all that a partial deck keeps of its targets, ballots and contests are the counts of its
+/// marks.
 pub fn is_right(partial: &Partial) -> bool {
     for t in 0..partial.shape().targets() {
         if !is_total_right(partial, t) {
