@@ -1,6 +1,7 @@
 use crate::words::{number, pair, split_dot};
 use anyhow::{Result, ensure};
 use close_rules::Reason;
+use lat_base::MOST_TARGETS;
 use lat_misassign::Misassignment;
 use std::alloc::Global;
 
@@ -9,7 +10,7 @@ fn read_exchange(alloc: Global, word: &str) -> Result<Misassignment> {
     let (count, rest) = split_dot(word);
     let n = number(count)?;
     let (t, u) = pair(rest)?;
-    ensure!(n <= 256 && t < n && u < n, "no exchange");
+    ensure!(n <= MOST_TARGETS && t < n && u < n, "no exchange");
     Ok(Misassignment::swap(alloc, n, t, u)?)
 }
 
