@@ -1,0 +1,53 @@
+//! Takes the steps that each line of standard input says, and prints what holds on the way. A line
+//! has a name and then one of these:
+//!
+//! - a style as its contests, LIMIT:TARGETS or COUNTxLIMIT:TARGETS each, joined by commas; the
+//!   rules DISTINCT/LEAST/BLANK/OVER; a number of ballots; and words, which are steps and questions
+//!   of the partial deck of so many ballots (docs/ADDING.md tells them);
+//! - `full DEPTH KIDS search PICKS BUDGET`: a search of a full tree of states, by a chooser that
+//!   halts after that many picks (`all`: never);
+//! - `full DEPTH KIDS tree NODES`: a tree of these nodes, in preorder and joined by commas.
+#![tactic(auto)]
+
+mod anew;
+mod answers;
+mod deck_trees;
+mod full_rows;
+mod full_tree;
+mod opening;
+mod reasons;
+mod stacking;
+mod steps;
+mod walk;
+mod words;
+
+use answers::print_answers;
+use anyhow::Result;
+use full_rows::print_full;
+use opening::open;
+use std::alloc::Global;
+use words::split_word;
+
+// Prints the row of a line.
+fn print_row<R: Print>(rt: &R, alloc: Global, line: &str) -> Result<()> {
+    let (name, rest) = split_word(line);
+    print!(rt; "{name}:")?;
+    let (style, rest) = split_word(rest);
+    if style == "full" {
+        print_full(rt, alloc, rest)?;
+    } else {
+        let (rules, rest) = split_word(rest);
+        let (ballots, rest) = split_word(rest);
+        let mut partial = open(alloc, style, rules, ballots)?;
+        print_answers(rt, alloc, &mut partial, rest)?;
+    }
+    println!(rt; "")?;
+    Ok(())
+}
+
+fn main(rt: HostRuntime) -> Result<()> {
+    for line in rt.lines(rt.alloc()) {
+        print_row(&rt, rt.alloc(), line?.as_str())?;
+    }
+    Ok(())
+}
