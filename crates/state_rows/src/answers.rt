@@ -2,10 +2,11 @@ use crate::deck_trees::judge;
 use crate::reasons::read_reason;
 use crate::steps::take_step;
 use crate::walk::walk;
-use crate::words::{number, pair, split_dot};
+use crate::words::{pair, split_dot};
 use anyhow::{Result, bail, ensure};
 use close_rules::{cheap, refutes};
 use deck_state::{Mark, Partial, marked_in, possible_in};
+use row_words::number;
 use std::alloc::Global;
 use tree_core::Verdict0;
 

@@ -1,8 +1,8 @@
 use crate::answers::print_verdict;
 use crate::full_tree::{Descend, FullTree};
 use crate::stacking::stack;
-use crate::words::split_word;
 use anyhow::{Result, bail, ensure};
+use row_words::split_word;
 use std::alloc::Global;
 use tree_core::{Node, Tree, check_open, check_tree};
 use tree_search::{Outcome, search};

@@ -25,8 +25,8 @@ use answers::print_answers;
 use anyhow::Result;
 use full_rows::print_full;
 use opening::open;
+use row_words::split_word;
 use std::alloc::Global;
-use words::split_word;
 
 // Prints the row of a line.
 fn print_row<R: Print>(rt: &R, alloc: Global, line: &str) -> Result<()> {

@@ -1,8 +1,9 @@
-use crate::words::{number, pair, split_dot};
+use crate::words::{pair, split_dot};
 use anyhow::{Result, ensure};
 use close_rules::Reason;
 use lat_base::MOST_TARGETS;
 use lat_misassign::Misassignment;
+use row_words::number;
 use std::alloc::Global;
 
 // The exchange of two targets, as N.T.U: of N targets in all.

@@ -1,6 +1,7 @@
-use crate::words::{number, pair};
+use crate::words::pair;
 use anyhow::{Result, ensure};
 use deck_state::{Mark, Partial};
+use row_words::number;
 
 // Decides the mark of ballot j at target t.
 fn decide(partial: &mut Partial, j: u16, t: u16, on: bool) -> Result<()> {

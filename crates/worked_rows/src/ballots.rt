@@ -1,10 +1,9 @@
 use crate::deck::{deck_of, deck_text};
-use crate::rules::rules_of;
-use crate::style::style_of;
-use crate::words::{number_of, numbers_of, split_word};
+use crate::words::numbers_of;
 use anyhow::{Result, ensure};
 use lat_ballots::{Deck, plain_size};
 use lat_base::{MOST_BALLOTS, MOST_TARGETS};
+use row_words::{number, rules_of, split_word, style_of};
 use std::alloc::{AllocError, Global};
 
 // The marks of a deck, each as its ballot, a colon and its target, or `-` for none.
@@ -31,8 +30,8 @@ pub fn set(alloc: Global, rest: &str) -> Result<String> {
     let (deck, rest) = split_word(rest);
     let (ballot, target) = split_word(rest);
     let mut deck = deck_of(alloc, &style_of(alloc, style)?, deck)?;
-    let j = number_of(ballot);
-    let t = number_of(target);
+    let j = number(ballot)?;
+    let t = number(target)?;
     ensure!(j < deck.ballots() && t < deck.targets(), "no such mark");
     deck.set(j, t, true);
     let copy = deck.copy(alloc)?;

@@ -1,8 +1,8 @@
 ghost use Rattle.std.specs.Prelude.{◌≡◌, ◌+◌, ◌<◌, ◌^◌, OnOk};
 
 use crate::style::style_text;
-use crate::words::{number_of, split_word};
 use anyhow::Result;
+use row_words::{number, split_word};
 use sample_styles::Samples;
 use std::alloc::Global;
 
@@ -24,7 +24,7 @@ pub fn drawn(alloc: Global, rest: &str) -> Result<String> {
     let (seed, count) = split_word(rest);
     let mut text = String::new(alloc);
     let mut samples = Samples::new(seed.parse::<u32>().unwrap_or(0));
-    for _ in 0..number_of(count) {
+    for _ in 0..number(count)? {
         push_style(alloc, &mut text, &mut samples)?;
     }
     Ok(text)

@@ -1,11 +1,11 @@
 ghost use Rattle.std.specs.Prelude.{◌≡◌, length, IfOk};
 ghost use Rattle.lat_base.specs.Shape.{target_count};
 
-use crate::style::style_of;
-use crate::words::{number_of, numbers_of, numbers_text, split_word};
+use crate::words::{numbers_of, numbers_text};
 use anyhow::{Result, ensure};
 use lat_base::{MOST_TARGETS, Shape};
 use lat_misassign::Misassignment;
+use row_words::{number, split_word, style_of};
 use std::alloc::{AllocError, Global};
 
 /// The misassignment of a word, over the targets of a style.
@@ -52,7 +52,7 @@ pub fn sources(alloc: Global, rest: &str) -> Result<String> {
 
 /// The identity of so many targets.
 pub fn identity(alloc: Global, rest: &str) -> Result<String> {
-    let n = number_of(rest);
+    let n = number(rest)?;
     ensure!(1 <= n && n <= MOST_TARGETS, "no such number of targets");
     let s = Misassignment::identity(alloc, n)?;
     Ok(sources_text(alloc, &s)?)
@@ -62,9 +62,9 @@ pub fn identity(alloc: Global, rest: &str) -> Result<String> {
 pub fn swap(alloc: Global, rest: &str) -> Result<String> {
     let (n, rest) = split_word(rest);
     let (t, u) = split_word(rest);
-    let n = number_of(n);
-    let t = number_of(t);
-    let u = number_of(u);
+    let n = number(n)?;
+    let t = number(t)?;
+    let u = number(u)?;
     ensure!(n <= MOST_TARGETS && t < n && u < n, "no such targets");
     let s = Misassignment::swap(alloc, n, t, u)?;
     Ok(sources_text(alloc, &s)?)
@@ -75,8 +75,8 @@ pub fn exchange(alloc: Global, rest: &str) -> Result<String> {
     let (style, rest) = split_word(rest);
     let (c, d) = split_word(rest);
     let shape = style_of(alloc, style)?;
-    let c = number_of(c);
-    let d = number_of(d);
+    let c = number(c)?;
+    let d = number(d)?;
     ensure!(
         c < shape.contests() && d < shape.contests(),
         "no such contests"

@@ -1,6 +1,6 @@
-use crate::words::split_word;
 use anyhow::Result;
 use lat_base::{Id, Names, Names0};
+use row_words::split_word;
 use std::alloc::{AllocError, Global};
 
 // The ids between the commas of a word.

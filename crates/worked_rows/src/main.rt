@@ -13,14 +13,13 @@ mod ids;
 mod orders;
 mod parts;
 mod proposals;
-mod rules;
 mod style;
 mod tallies;
 mod words;
 
 use anyhow::{Result, bail};
+use row_words::split_word;
 use std::alloc::Global;
-use words::split_word;
 
 // What a call of the crates on ballots and totals gives.
 fn of_ballots(alloc: Global, call: &str, rest: &str) -> Result<String> {

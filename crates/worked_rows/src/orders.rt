@@ -1,7 +1,6 @@
 use crate::deck::{deck_of, deck_text};
-use crate::style::style_of;
-use crate::words::split_word;
 use anyhow::Result;
+use row_words::{split_word, style_of};
 use std::alloc::Global;
 use symmetry::{canonical, is_canonical};
 

@@ -1,9 +1,7 @@
-use crate::rules::rules_of;
-use crate::style::style_of;
-use crate::words::{number_of, split_word};
 use anyhow::{Result, ensure};
 use deck_builder::propose;
 use lat_base::MOST_BALLOTS;
+use row_words::{number, rules_of, split_word, style_of};
 use std::alloc::Global;
 
 /// How many ballots the deck of a pattern has, or none where there is no such deck.
@@ -13,9 +11,9 @@ pub fn proposed(alloc: Global, rest: &str) -> Result<String> {
     let (ballots, turn) = split_word(rest);
     let shape = style_of(alloc, style)?;
     let rules = rules_of(rules)?;
-    let k = number_of(ballots);
+    let k = number(ballots)?;
     ensure!(k <= MOST_BALLOTS, "too many ballots");
-    match propose(alloc, &shape, &rules, k, u32::from(number_of(turn)))? {
+    match propose(alloc, &shape, &rules, k, u32::from(number(turn)?))? {
         Some(deck) => {
             let found = deck.ballots();
             Ok(format!(in alloc; "{found} ballots")?)

@@ -1,11 +1,9 @@
 use crate::deck::deck_of;
 use crate::exchanges::sources_of;
-use crate::rules::rules_of;
-use crate::style::style_of;
-use crate::words::{number_of, split_word};
 use anyhow::{Result, ensure};
 use lat_rules::obeys;
 use lat_tabulate::{lost, report, total, total_under};
+use row_words::{number, rules_of, split_word, style_of};
 use std::alloc::{AllocError, Global};
 
 // Totals with commas between them.
@@ -48,7 +46,7 @@ pub fn under(alloc: Global, rest: &str) -> Result<String> {
     let shape = style_of(alloc, style)?;
     let deck = deck_of(alloc, &shape, deck)?;
     let s = sources_of(alloc, &shape, sources)?;
-    let u = number_of(target);
+    let u = number(target)?;
     ensure!(u < shape.targets(), "no such target");
     Ok(total_under(&shape, &deck, &s, u).to_string(alloc)?)
 }
