@@ -11,11 +11,8 @@
 # the last one, is compared as well. Last come `verify` of a deck of 256 targets in 64 contests, and of 1,024
 # ballots that each mark 256 targets, which is mostly reading. Builds no crate.
 cd "$(dirname "$0")/data" || exit 1
-program=../../crates/lat/out/lat
-if [ ! -x "$program" ]; then
-    echo "bench: the program isn't built; run ./lat once" >&2
-    exit 1
-fi
+source ../built.sh
+program=$(built lat) || exit 1
 
 # Whether an attack with this budget ends.
 ends() { # STYLE NAME BUDGET
@@ -57,8 +54,6 @@ m18 m18-a 10000
 m33 m33-a 100000
 DECKS
 
-scratch=$(mktemp -d)
-trap 'rm -rf "$scratch"' EXIT
 rustc -O -o "$scratch/plain-attack" ../plain-attack/main.rs || exit 1
 
 # The best of five runs of a command, in seconds.

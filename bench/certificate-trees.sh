@@ -5,13 +5,8 @@
 # memory of its whole run; beside it those of a plain loop in Rust over the same bytes (plain-tree/main.rs),
 # which this script builds with rustc. Builds no crate.
 cd "$(dirname "$0")" || exit 1
-program=$PWD/../crates/cert_rows/out/cert_rows
-if [ ! -x "$program" ]; then
-    echo "bench: the program isn't built; run rt run in crates/cert_rows once" >&2
-    exit 1
-fi
-scratch=$(mktemp -d)
-trap 'rm -rf "$scratch"' EXIT
+source ./built.sh
+program=$(built cert_rows) || exit 1
 rustc -O -o "$scratch/plain-tree" plain-tree/main.rs || exit 1
 cd "$scratch" || exit 1
 

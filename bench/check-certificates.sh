@@ -3,13 +3,8 @@
 # forks deep and must be refused at its node 1. It prints for each what the program says, the seconds and the
 # peak memory, and fails where an answer isn't the known one. Builds no crate.
 cd "$(dirname "$0")/data" || exit 1
-program=$PWD/../../crates/lat/out/lat
-if [ ! -x "$program" ]; then
-    echo "bench: the program isn't built; run ./lat once" >&2
-    exit 1
-fi
-scratch=$(mktemp -d)
-trap 'rm -rf "$scratch"' EXIT
+source ../built.sh
+program=$(built lat) || exit 1
 failed=0
 
 # Checks a certificate, and prints what is said of it and what it took.

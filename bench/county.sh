@@ -5,13 +5,8 @@
 # where one isn't as the manifest says, or there is no manifest. Builds no crate.
 definition=$(realpath "${1:-$(dirname "$0")/../examples/county.json}")
 cd "$(dirname "$0")" || exit 1
-program=$PWD/../crates/lat/out/lat
-if [ ! -x "$program" ]; then
-    echo "bench: the program isn't built; run ./lat once" >&2
-    exit 1
-fi
-scratch=$(mktemp -d)
-trap 'rm -rf "$scratch"' EXIT
+source ./built.sh
+program=$(built lat) || exit 1
 mkdir "$scratch/county" && cd "$scratch/county" || exit 1
 
 # Runs a command, and then prints its status, the seconds of its clock and processor and its peak memory;

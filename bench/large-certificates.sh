@@ -7,16 +7,9 @@
 # The certificate says that no deck of at most 7 ballots is good for 256 targets, which holds at once, since
 # there are only 2^7 columns; its tree forks on marks all the same, 6,000,000 leaves in all.
 cd "$(dirname "$0")" || exit 1
-program=$PWD/../crates/lat/out/lat
-rows=$PWD/../crates/cert_rows/out/cert_rows
-for built in "$program" "$rows"; do
-    if [ ! -x "$built" ]; then
-        echo "bench: $built isn't built; run ./lat, and rt run in crates/cert_rows, once" >&2
-        exit 1
-    fi
-done
-scratch=$(mktemp -d)
-trap 'rm -rf "$scratch"' EXIT
+source ./built.sh
+program=$(built lat) || exit 1
+rows=$(built cert_rows) || exit 1
 cd "$scratch" || exit 1
 failed=0
 

@@ -4,13 +4,8 @@
 # size isn't answered so. Last comes a style of twenty contests of four targets with a budget of 1,000, which
 # is answered or left open. Builds no crate.
 cd "$(dirname "$0")/data" || exit 1
-program=$PWD/../../crates/lat/out/lat
-if [ ! -x "$program" ]; then
-    echo "bench: the program isn't built; run ./lat once" >&2
-    exit 1
-fi
-scratch=$(mktemp -d)
-trap 'rm -rf "$scratch"' EXIT
+source ../built.sh
+program=$(built lat) || exit 1
 failed=0
 
 # Plans a style in the temporary folder, and prints the third line with what it took.
