@@ -1,5 +1,5 @@
 -- The levels of contests: of blank ballots, and where a mark is put.
-use Rattle.std.proofs.Common.{◌≡◌, ◌≢◌, ◌≤◌, ◌<◌, ◌+◌, ◌*◌, ◌/◌, ◌%◌, ◌⊎◌, inl, inr, ℕ, zero, suc, Bool, List, [], length, get_or, set, map, replicate, cond, count_by, refl, subst, ap, sym, ◌∙◌, arith}
+use Rattle.std.proofs.Common.{◌≡◌, ◌≢◌, ◌≤◌, ◌<◌, ◌+◌, ◌*◌, ◌/◌, ◌%◌, ◌⊎◌, inl, inr, ℕ, List, [], length, get_or, set, map, replicate, cond, count_by, refl, subst, ap, sym, ◌∙◌, arith}
 use Rattle.std.specs.List.{range_with_len}
 use Rattle.std.proofs.lemmas.Bool.{cases_eq, cases_lt}
 use Rattle.std.proofs.lemmas.List.{get_or-set_same, get_or-set_other, length-set, length-replicate}
@@ -10,10 +10,9 @@ use Rattle.lat_base.specs.Shape.{target_count, first_target, contest_at, contest
 use Rattle.readings.proofs.Places.{is_of}
 use Rattle.deck_state.specs.declared.kept_counts.ContestCount.{ContestCount}
 use Rattle.deck_state.specs.declared.mark.Mark.{Mark}
-use Rattle.deck_state.specs.declared.mark.Mark.TheVariants.{Undecided}
 use Rattle.deck_state.specs.Mark.{is_marked, may_be_marked}
 use Rattle.deck_state.specs.Sheet.{count_of, vote}
-use Rattle.deck_state.specs.Tally.{is_at, level_of, place_of, level_alike, AreLevels, AreRaised, HasLevels}
+use Rattle.deck_state.specs.Tally.{is_at, place_of, level_alike, AreLevels, AreRaised, HasLevels}
 use Rattle.deck_state.proofs.KeptVotes.{range_other}
 use Rattle.deck_state.proofs.Sheets.{count_alike, outside_of}
 

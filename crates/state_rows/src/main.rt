@@ -6,7 +6,9 @@
 //!   of the partial deck of so many ballots (docs/ADDING.md tells them);
 //! - `full DEPTH KIDS search PICKS BUDGET`: a search of a full tree of states, by a chooser that
 //!   halts after that many picks (`all`: never);
-//! - `full DEPTH KIDS tree NODES`: a tree of these nodes, in preorder and joined by commas.
+//! - `full DEPTH KIDS tree NODES`: a tree of these nodes, in preorder and joined by commas;
+//! - `sources STYLE ROWS LEVELS`: a walk through the misassignments that leave the totals of a deck
+//!   (rows of 0 and 1, joined by commas) as they are, as far as so many known sources.
 #![tactic(auto)]
 
 mod anew;
@@ -14,8 +16,10 @@ mod answers;
 mod deck_trees;
 mod full_rows;
 mod full_tree;
+mod known_sources;
 mod opening;
 mod reasons;
+mod source_walk;
 mod stacking;
 mod steps;
 mod walk;
@@ -26,6 +30,7 @@ use anyhow::Result;
 use full_rows::print_full;
 use opening::open;
 use row_words::split_word;
+use source_walk::print_source_walk;
 use std::alloc::Global;
 
 // Prints the row of a line.
@@ -35,6 +40,8 @@ fn print_row<R: Print>(rt: &R, alloc: Global, line: &str) -> Result<()> {
     let (style, rest) = split_word(rest);
     if style == "full" {
         print_full(rt, alloc, rest)?;
+    } else if style == "sources" {
+        print_source_walk(rt, alloc, rest)?;
     } else {
         let (rules, rest) = split_word(rest);
         let (ballots, rest) = split_word(rest);

@@ -1,9 +1,9 @@
-use crate::deck::{deck_of, deck_text};
+use crate::deck::deck_text;
 use crate::words::numbers_of;
 use anyhow::{Result, ensure};
 use lat_ballots::{Deck, plain_size};
 use lat_base::{MOST_BALLOTS, MOST_TARGETS};
-use row_words::{number, rules_of, split_word, style_of};
+use row_words::{deck_of, number, rules_of, split_word, style_of};
 use std::alloc::{AllocError, Global};
 
 // The marks of a deck, each as its ballot, a colon and its target, or `-` for none.

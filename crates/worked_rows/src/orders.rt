@@ -1,6 +1,6 @@
-use crate::deck::{deck_of, deck_text};
+use crate::deck::deck_text;
 use anyhow::Result;
-use row_words::{split_word, style_of};
+use row_words::{deck_of, split_word, style_of};
 use std::alloc::Global;
 use symmetry::{canonical, is_canonical};
 

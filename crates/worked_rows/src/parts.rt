@@ -1,9 +1,9 @@
-use crate::deck::{deck_of, deck_text};
+use crate::deck::deck_text;
 use crate::style::style_text;
 use crate::words::numbers_of;
 use anyhow::Result;
 use projection::{part, restrict};
-use row_words::{split_word, style_of};
+use row_words::{deck_of, split_word, style_of};
 use std::alloc::Global;
 
 /// The style of some contests of another, or the first fault of their list.

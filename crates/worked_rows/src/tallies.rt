@@ -1,9 +1,8 @@
-use crate::deck::deck_of;
 use crate::exchanges::sources_of;
 use anyhow::{Result, ensure};
 use lat_rules::obeys;
 use lat_tabulate::{lost, report, total, total_under};
-use row_words::{number, rules_of, split_word, style_of};
+use row_words::{deck_of, number, rules_of, split_word, style_of};
 use std::alloc::{AllocError, Global};
 
 // Totals with commas between them.

@@ -1,5 +1,5 @@
 use Rattle.std.proofs.Common.{◌≡◌}
-use Rattle.evade_space.proofs.tests.+walk.Given as goal
+use Rattle.state_rows.proofs.source_walk.+walk.Given as goal
 
 abbrev pub decreases-walk : goal.decreases-walk
 decreases-walk l = l.levels
