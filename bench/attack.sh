@@ -16,8 +16,11 @@ program=$(built lat) || exit 1
 
 # Whether an attack with this budget ends.
 ends() { # STYLE NAME BUDGET
-    "$program" verify "$2.json" "$1" "$2.deck.csv" "$3" >/dev/null 2>&1
-    [ $? -ne 9 ]
+    local code=0
+    "$program" verify "$2.json" "$1" "$2.deck.csv" "$3" >/dev/null 2>&1 || code=$?
+    # A budget that is spent leaves its tree beside the deck.
+    rm -f "$2.deck.csv.open"
+    [ "$code" -ne 9 ]
 }
 
 # The least budget that isn't spent, between one that is and one that isn't.
